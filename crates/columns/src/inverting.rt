@@ -1,0 +1,69 @@
+// A column over any other, whose conditions are those of the other, each plain or inverted.
+use crate::column::Column;
+use fields::condition::Condition;
+use fields::condition::sided::Sided;
+use fields::condition::sided::SidedCondition;
+use fields::refusal::Refusal;
+use rows::Row;
+use std::alloc::AllocError;
+use std::alloc::Global;
+ghost use mathlib.Core.Path.{_≡_};
+ghost use mathlib.Core.Bool.{false};
+ghost use Rattle.columns.specs.Sides.{sided};
+ghost use Rattle.fields.specs.Conditions.{sided-admits};
+ghost use Rattle.rows.specs.Shown.{shown};
+ghost use Rattle.rows.specs.Shows.{Shows};
+
+// `inverted` has a one for each inverted condition.
+#[derive(Drop)]
+pub struct Inverting<C: Column> {
+    below: C,
+    inverted: Row,
+}
+
+pub impl<C: Column> Column for Inverting<C> as InvertingColumn {
+    type Condition = Sided<C::Condition>;
+
+    ghost listed = { λ s. sided (C·Column .listed (s .below)) (shown (s .inverted)) };
+
+    fn new(heap: Global) -> Result<Self, AllocError> {
+        let below = C::new(heap)?;
+        Ok(Inverting {
+            below,
+            inverted: Row::zeros(),
+        })
+    }
+
+    fn len(&self) -> usize {
+        self.below.len()
+    }
+
+    fn insert(&mut self, position: usize, condition: Sided<C::Condition>) -> Result<(), Refusal> {
+        let answer = self.below.insert(position, condition.condition());
+        if answer.is_ok() {
+            self.inverted.insert(position - 1, condition.is_inverted());
+        }
+        answer
+    }
+
+    fn remove(&mut self, position: usize) -> Result<(), Refusal> {
+        let answer = self.below.remove(position);
+        if answer.is_ok() {
+            self.inverted.remove(position - 1);
+        }
+        answer
+    }
+
+    fn read(&self, value: Option<<C::Condition as Condition>::Value>, row: &mut Row)
+        ensures row { λ _. ⌜ Shows (now (row .exit)) (λ c. sided-admits (Condition·Condition .admits) c value) (sided (C·Column .listed (now (self .entry) .below)) (shown (now (self .entry) .inverted))) ⌝ }
+    {
+        let present = value.is_some();
+        self.below.read(value, row);
+        if present {
+            row.flip(&self.inverted);
+            row.retain(&Row::ones(self.below.len()));
+        } else {
+            row.clear(&self.inverted);
+        }
+    }
+}

@@ -1,0 +1,2 @@
+mod NamesRead
+mod Begun

@@ -1,0 +1,9 @@
+pub mod Refusals
+pub mod Conditions
+pub mod Labels
+pub mod Strings
+pub mod NameBytes
+pub mod Names
+pub mod Addresses
+pub mod NamePatterns
+pub mod Making

@@ -1,0 +1,4 @@
+mod Bit
+mod Words
+mod Rows
+pub mod Listed

@@ -1,0 +1,4 @@
+pub mod Bits
+pub mod Shown
+pub mod Tables
+pub mod Shows
