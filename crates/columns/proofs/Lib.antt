@@ -1,1 +1,4 @@
+pub mod Accepted
 mod Turned
+mod Tables
+mod Coding

@@ -1,2 +1,4 @@
 pub mod Edits
 pub mod Sides
+pub mod Codes
+pub mod Spreads
