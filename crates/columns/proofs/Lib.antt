@@ -2,3 +2,7 @@ pub mod Accepted
 mod Turned
 mod Tables
 mod Coding
+pub mod Pigeons
+pub mod Some
+mod Climbing
+mod Naming

@@ -2,3 +2,5 @@
 pub mod column;
 pub mod inverting;
 pub mod spread;
+mod table;
+pub mod values;

@@ -4,6 +4,7 @@ use crate::column::LIMIT;
 use crate::column::insert_check;
 use crate::column::remove_check;
 use crate::spread::coded::Coded;
+use crate::table::remove_each;
 use fields::condition::Condition;
 use fields::refusal::Refusal;
 use rows::Row;
@@ -22,7 +23,7 @@ ghost use Rattle.columns.specs.Edits.{insert-answer, insert-after, remove-answ
 ghost use Rattle.columns.specs.Spreads.{spread-list, CodesShow, AbsentShows};
 ghost use Rattle.rows.specs.Shown.{shown};
 ghost use Rattle.rows.specs.Shows.{Shows};
-ghost use Rattle.rows.specs.Tables.{Put, Out};
+ghost use Rattle.rows.specs.Tables.{Put};
 ghost use Rattle.rows.specs.declared.row.Row.{Row};
 
 // A table of `n` rows of zeros.
@@ -47,17 +48,11 @@ fn insert_each<V: Coded, K: Condition<Value = V>>(rows: &mut [Row], place: usize
     }
 }
 
-// Takes `place` out of each row.
-fn remove_each(rows: &mut [Row], place: usize)
-    ensures { λ _. ⌜ ((k : ℕ) (d : Row) → k < length (now (rows .entry)) → Out place (getD (now (rows .entry)) k d) (getD (now (rows .exit)) k d)) ⌝ }
-{
-    for code in 0..rows.len() {
-        rows[code].remove(place);
-    }
-}
-
 // No condition, and `codes` rows, with the memory for all that can be listed.
-pub(crate) fn empty<V: Coded, K: Condition<Value = V>>(heap: Global, codes: usize) -> Result<Spread<K>, AllocError>
+pub(crate) fn empty<V: Coded, K: Condition<Value = V>>(
+    heap: Global,
+    codes: usize,
+) -> Result<Spread<K>, AllocError>
     requires { ⌜ codes ≤ 256 ⌝ }
     ensures { λ r. ⌜ made r (λ s. (spread-list s ≡ []) × (vec-len (s .rows) ≡ codes) × CodesShow (K·Condition .admits) (V·Coded .decoded) s × AbsentShows (K·Condition .admits) s) ⌝ }
 {
@@ -77,7 +72,11 @@ pub(crate) fn len<K: Condition>(spread: &Spread<K>) -> usize
     spread.conditions.len()
 }
 
-pub(crate) fn insert<V: Coded, K: Condition<Value = V>>(spread: &mut Spread<K>, position: usize, condition: K) -> Result<(), Refusal>
+pub(crate) fn insert<V: Coded, K: Condition<Value = V>>(
+    spread: &mut Spread<K>,
+    position: usize,
+    condition: K,
+) -> Result<(), Refusal>
     requires told { ⌜ CodesShow (K·Condition .admits) (V·Coded .decoded) (now spread) ⌝ }
     requires untold { ⌜ AbsentShows (K·Condition .admits) (now spread) ⌝ }
     ensures result { λ r. ⌜ r ≡ insert-answer position (length (spread-list (now (spread .entry)))) ⌝ }
@@ -94,7 +93,10 @@ pub(crate) fn insert<V: Coded, K: Condition<Value = V>>(spread: &mut Spread<K>, 
     Ok(())
 }
 
-pub(crate) fn remove<V: Coded, K: Condition<Value = V>>(spread: &mut Spread<K>, position: usize) -> Result<(), Refusal>
+pub(crate) fn remove<V: Coded, K: Condition<Value = V>>(
+    spread: &mut Spread<K>,
+    position: usize,
+) -> Result<(), Refusal>
     requires told { ⌜ CodesShow (K·Condition .admits) (V·Coded .decoded) (now spread) ⌝ }
     requires untold { ⌜ AbsentShows (K·Condition .admits) (now spread) ⌝ }
     ensures result { λ r. ⌜ r ≡ remove-answer position (length (spread-list (now (spread .entry)))) ⌝ }

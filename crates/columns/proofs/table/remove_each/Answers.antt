@@ -2,7 +2,7 @@ use native.Mathlib.Omega.{arith}
 use mathlib.Core.List.{[]}
 use Rattle.rows.specs.Tables.{Out}
 use Rattle.columns.proofs.Tables.{Each, each-none, each-more}
-use Rattle.columns.proofs.spread.edits.remove_each.Needs as need
+use Rattle.columns.proofs.table.remove_each.Needs as need
 
 pub loop-code-holds : need.loop-code-holds
 loop-code-holds c = each-none (λ k. Out (c .args .place)) (c .args .rows .now)
