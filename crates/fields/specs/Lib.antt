@@ -1,4 +1,5 @@
 pub mod Refusals
+pub mod Fields
 pub mod Conditions
 pub mod Labels
 pub mod Strings

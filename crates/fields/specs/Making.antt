@@ -8,6 +8,7 @@ use Rattle.std.specs.declared.option.Option.{Option}
 use Rattle.std.specs.declared.option.Option.the-variants.{Some, None}
 use Rattle.std.specs.declared.result.Result.{Result}
 use Rattle.std.specs.declared.result.Result.the-variants.{Ok, Err}
+use Rattle.fields.specs.Fields.{field-number}
 use Rattle.fields.specs.NameBytes.{text-fault, name-fault}
 use Rattle.fields.specs.Names.{name-bytes}
 use Rattle.fields.specs.NamePatterns.{beginning-bytes}
@@ -16,6 +17,8 @@ use Rattle.fields.specs.declared.condition.plain.Plain.the-variants.{Is}
 use Rattle.fields.specs.declared.condition.sided.Sided.{Sided}
 use Rattle.fields.specs.declared.condition.sided.Sense.{Sense}
 use Rattle.fields.specs.declared.condition.sided.Sense.the-variants as sense
+use Rattle.fields.specs.declared.field.Field.{Field}
+use Rattle.fields.specs.declared.field.Field.the-variants as field
 use Rattle.fields.specs.declared.making.End.{End}
 use Rattle.fields.specs.declared.making.End.the-variants as end
 use Rattle.fields.specs.declared.refusal.Refusal.{Refusal}
@@ -28,9 +31,9 @@ use Rattle.fields.specs.declared.tests.name.NamePattern.the-variants.{Whole, B
 use Rattle.fields.specs.declared.tests.protocol.ProtocolNumber.{ProtocolNumber}
 
 -- the field of an end's address
-abbrev pub end-number : End → ℕ
-end-number end.Source = 1
-end-number end.Destination = 2
+abbrev pub end-field : End → Field
+end-field end.Source = field.Source
+end-field end.Destination = field.Destination
 
 abbrev pub inverts : Sense → Bool
 inverts sense.Plain = false
@@ -41,16 +44,16 @@ abbrev pub stated : {T : Type 0} → T → Sense → Sided (Plain T)
 stated t s = record { condition = Is t; inverted = inverts s }
 
 -- refusal 11 at a field
-abbrev pub unlawful : ℕ → Refusal
-unlawful field = record { reason = reason.Condition; part = part.Columns; place = field }
+abbrev pub unlawful : Field → Refusal
+unlawful f = record { reason = reason.Condition; part = part.Columns; place = field-number f }
 
-abbrev pub answer : {T : Type 0} → Option T → Sense → ℕ → Result (Sided (Plain T)) Refusal
-answer None s field = Err (unlawful field)
-answer (Some t) s field = Ok (stated t s)
+abbrev pub answer : {T : Type 0} → Option T → Sense → Field → Result (Sided (Plain T)) Refusal
+answer None s f = Err (unlawful f)
+answer (Some t) s f = Ok (stated t s)
 
 -- the answer is that of the test that Made describes, or of there being none
-abbrev pub MadeFrom : {T : Type 0} → (Option T → Type 0) → Sense → ℕ → Result (Sided (Plain T)) Refusal → Type 0
-MadeFrom {T} Made s field r = (test : Option T) × Made test × (r ≡ answer test s field)
+abbrev pub MadeFrom : {T : Type 0} → (Option T → Type 0) → Sense → Field → Result (Sided (Plain T)) Refusal → Type 0
+MadeFrom {T} Made s f r = (test : Option T) × Made test × (r ≡ answer test s f)
 
 -- every number but 0
 abbrev pub MadeProtocol : ℕ → Option ProtocolNumber → Type 0

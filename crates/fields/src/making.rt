@@ -3,6 +3,7 @@ use crate::condition::Test;
 use crate::condition::plain::Plain;
 use crate::condition::sided::Sense;
 use crate::condition::sided::Sided;
+use crate::field::Field;
 use crate::refusal::Part;
 use crate::refusal::Reason;
 use crate::refusal::Refusal;
@@ -22,7 +23,7 @@ use crate::values::name::InterfaceName;
 use crate::values::port::Port;
 ghost use mathlib.Core.Path.{_≡_};
 ghost use Rattle.fields.specs.Addresses.{MadePrefix};
-ghost use Rattle.fields.specs.Making.{answer, stated, MadeFrom, end-number, MadeProtocol, MadeFlags, MadeLabels, MadeWhole, MadeBeginning};
+ghost use Rattle.fields.specs.Making.{answer, stated, MadeFrom, end-field, MadeProtocol, MadeFlags, MadeLabels, MadeWhole, MadeBeginning};
 
 pub type AddressCondition = Sided<Plain<AddressPrefix>>;
 
@@ -44,37 +45,29 @@ pub enum End {
 }
 
 impl End {
-    // The number of the field that holds this end's address.
-    fn address_field(&self) -> usize
-        ensures result { λ r. ⌜ r ≡ end-number (now (self .entry)) ⌝ }
+    // The field that holds this end's address.
+    fn address_field(&self) -> Field
+        ensures result { λ r. ⌜ r ≡ end-field (now (self .entry)) ⌝ }
     {
         match self {
-            End::Source => 1,
-            End::Destination => 2,
+            End::Source => Field::Source,
+            End::Destination => Field::Destination,
         }
     }
 }
 
-const PROTOCOL_FIELD: usize = 3;
-
-const FLAGS_FIELD: usize = 6;
-
-const LABEL_FIELD: usize = 7;
-
-const NAME_FIELD: usize = 8;
-
 // The first `length` bits of an address; all bits behind them are zero.
 pub fn address(end: End, bits: u32, length: u32, sense: Sense) -> Result<AddressCondition, Refusal>
-    ensures result { λ r. ⌜ MadeFrom (MadePrefix bits length) sense (end-number end) r ⌝ }
+    ensures result { λ r. ⌜ MadeFrom (MadePrefix bits length) sense (end-field end) r ⌝ }
 {
     made(AddressPrefix::new(bits, length), sense, end.address_field())
 }
 
 // A protocol from 1 to 255.
 pub fn protocol(number: u8, sense: Sense) -> Result<ProtocolCondition, Refusal>
-    ensures result { λ r. ⌜ MadeFrom (MadeProtocol number) sense 3 r ⌝ }
+    ensures result { λ r. ⌜ MadeFrom (MadeProtocol number) sense Field.Protocol r ⌝ }
 {
-    made(ProtocolNumber::new(number), sense, PROTOCOL_FIELD)
+    made(ProtocolNumber::new(number), sense, Field::Protocol)
 }
 
 // A port. None is unlawful.
@@ -86,40 +79,44 @@ pub fn port(number: u16, sense: Sense) -> PortCondition
 
 // The wanted flags among those of the mask.
 pub fn flags(mask: u8, wanted: u8, sense: Sense) -> Result<FlagsCondition, Refusal>
-    ensures result { λ r. ⌜ MadeFrom (MadeFlags mask wanted) sense 6 r ⌝ }
+    ensures result { λ r. ⌜ MadeFrom (MadeFlags mask wanted) sense Field.Flags r ⌝ }
 {
-    made(FlagsPattern::new(mask, wanted), sense, FLAGS_FIELD)
+    made(FlagsPattern::new(mask, wanted), sense, Field::Flags)
 }
 
 // A set of labels, as the sum of their values.
 pub fn labels(members: u8, sense: Sense) -> Result<LabelCondition, Refusal>
-    ensures result { λ r. ⌜ MadeFrom (MadeLabels members) sense 7 r ⌝ }
+    ensures result { λ r. ⌜ MadeFrom (MadeLabels members) sense Field.Label r ⌝ }
 {
-    made(LabelSet::new(members), sense, LABEL_FIELD)
+    made(LabelSet::new(members), sense, Field::Label)
 }
 
 // A whole interface name of 1 to 15 bytes.
 pub fn whole_name(bytes: &[u8], sense: Sense) -> Result<NameCondition, Refusal>
-    ensures result { λ r. ⌜ MadeFrom (MadeWhole (now (bytes .entry))) sense 8 r ⌝ }
+    ensures result { λ r. ⌜ MadeFrom (MadeWhole (now (bytes .entry))) sense Field.Interface r ⌝ }
 {
     match InterfaceName::new(bytes) {
-        Ok(name) => made(Some(NamePattern::Whole(name)), sense, NAME_FIELD),
-        Err(_) => made(None, sense, NAME_FIELD),
+        Ok(name) => made(Some(NamePattern::Whole(name)), sense, Field::Interface),
+        Err(_) => made(None, sense, Field::Interface),
     }
 }
 
 // The 0 to 14 bytes that an interface name begins with.
 pub fn name_beginning(bytes: &[u8], sense: Sense) -> Result<NameCondition, Refusal>
-    ensures result { λ r. ⌜ MadeFrom (MadeBeginning (now (bytes .entry))) sense 8 r ⌝ }
+    ensures result { λ r. ⌜ MadeFrom (MadeBeginning (now (bytes .entry))) sense Field.Interface r ⌝ }
 {
     match NameBeginning::new(bytes) {
-        Some(beginning) => made(Some(NamePattern::Beginning(beginning)), sense, NAME_FIELD),
-        None => made(None, sense, NAME_FIELD),
+        Some(beginning) => made(
+            Some(NamePattern::Beginning(beginning)),
+            sense,
+            Field::Interface,
+        ),
+        None => made(None, sense, Field::Interface),
     }
 }
 
 // The condition that states a lawful test, or the refusal where there is none.
-fn made<T: Test>(test: Option<T>, sense: Sense, field: usize) -> Result<Sided<Plain<T>>, Refusal>
+fn made<T: Test>(test: Option<T>, sense: Sense, field: Field) -> Result<Sided<Plain<T>>, Refusal>
     ensures result { λ r. ⌜ r ≡ answer test sense field ⌝ }
 {
     match test {
@@ -127,7 +124,7 @@ fn made<T: Test>(test: Option<T>, sense: Sense, field: usize) -> Result<Sided<Pl
         None => Err(Refusal {
             reason: Reason::Condition,
             part: Part::Columns,
-            place: field,
+            place: field.number(),
         }),
     }
 }
