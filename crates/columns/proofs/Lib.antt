@@ -6,3 +6,4 @@ pub mod Pigeons
 pub mod Some
 mod Climbing
 mod Naming
+mod Worked

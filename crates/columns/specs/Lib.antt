@@ -6,3 +6,4 @@ pub mod Keys
 pub mod Ports
 pub mod Ordered
 pub mod Owned
+pub mod Examples

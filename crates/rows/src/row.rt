@@ -43,7 +43,8 @@ impl Row {
     pub fn words(&self) -> [u64; 8]
         ensures result { λ r. ⌜ r ≡ now (self .entry) .words ⌝ }
     {
-        self.words
+        let words = self.words;
+        words
     }
 
     // What stands at `place`, and false past the last one.
