@@ -78,7 +78,10 @@ fn same_row(a: &Row, b: &Row) -> bool {
 }
 
 // The first address of each stretch of addresses that all conditions treat alike.
-fn address_starts(heap: Global, field: &FieldColumn<Inverting<AddressColumn>>) -> Result<Vec<u32>, AllocError> {
+fn address_starts(
+    heap: Global,
+    field: &FieldColumn<Inverting<AddressColumn>>,
+) -> Result<Vec<u32>, AllocError> {
     let mut starts = Vec::new(heap);
     starts.push(0)?;
     for condition in &field.conditions {
@@ -100,7 +103,10 @@ fn addresses_below(length: u32) -> u64 {
     1u64 << (32u32.saturating_sub(length))
 }
 
-pub fn address_table(heap: Global, field: &FieldColumn<Inverting<AddressColumn>>) -> Result<Table, AllocError> {
+pub fn address_table(
+    heap: Global,
+    field: &FieldColumn<Inverting<AddressColumn>>,
+) -> Result<Table, AllocError> {
     let mut table = Table::new(heap, field.name);
     for bits in &address_starts(heap, field)? {
         let [a, b, c, d] = bits.to_be_bytes();
@@ -111,7 +117,10 @@ pub fn address_table(heap: Global, field: &FieldColumn<Inverting<AddressColumn>>
 }
 
 // The first port of each stretch of ports that all conditions treat alike.
-fn port_starts(heap: Global, field: &FieldColumn<Inverting<ValueColumn>>) -> Result<Vec<u16>, AllocError> {
+fn port_starts(
+    heap: Global,
+    field: &FieldColumn<Inverting<ValueColumn>>,
+) -> Result<Vec<u16>, AllocError> {
     let mut starts = Vec::new(heap);
     starts.push(0)?;
     for condition in &field.conditions {
@@ -127,7 +136,10 @@ fn port_starts(heap: Global, field: &FieldColumn<Inverting<ValueColumn>>) -> Res
     Ok(starts)
 }
 
-pub fn port_table(heap: Global, field: &FieldColumn<Inverting<ValueColumn>>) -> Result<Table, AllocError> {
+pub fn port_table(
+    heap: Global,
+    field: &FieldColumn<Inverting<ValueColumn>>,
+) -> Result<Table, AllocError> {
     let mut table = Table::new(heap, field.name);
     for start in &port_starts(heap, field)? {
         let number = *start;
@@ -140,7 +152,10 @@ pub fn port_table(heap: Global, field: &FieldColumn<Inverting<ValueColumn>>) -> 
 }
 
 // The first protocol of each row: protocols with the same row share an entry.
-pub fn protocol_table(heap: Global, field: &FieldColumn<ProtocolColumn>) -> Result<Table, AllocError> {
+pub fn protocol_table(
+    heap: Global,
+    field: &FieldColumn<ProtocolColumn>,
+) -> Result<Table, AllocError> {
     let mut table = Table::new(heap, field.name);
     for number in 0..=255u8 {
         let label = format!(heap, "{number}")?;

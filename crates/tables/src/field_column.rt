@@ -50,7 +50,11 @@ impl<C: Column> FieldColumn<C> {
     }
 
     // Whether the row has just the bits that the conditions give when they are asked one by one.
-    pub fn is_top_down(&self, value: Option<<C::Condition as Condition>::Value>, row: &Row) -> bool {
+    pub fn is_top_down(
+        &self,
+        value: Option<<C::Condition as Condition>::Value>,
+        row: &Row,
+    ) -> bool {
         let mut place = 0usize;
         for condition in &self.conditions {
             if row.get(place) != condition.holds_on(value) {

@@ -81,7 +81,10 @@ impl Input {
 fn print_fault(rt: &LibcRuntime, number: usize, fault: RuleFault) -> Result<(), AnyError> {
     match fault {
         RuleFault::Action => println!(rt, "line {number}: a rule begins with accept or drop")?,
-        RuleFault::Word => println!(rt, "line {number}: a condition is written FIELD=CONDITION, with FIELD one of src, dst, proto, sport, dport, flags, label, in")?,
+        RuleFault::Word => println!(
+            rt,
+            "line {number}: a condition is written FIELD=CONDITION, with FIELD one of src, dst, proto, sport, dport, flags, label, in"
+        )?,
         RuleFault::Twice(field) => {
             let name = field_name(field);
             println!(rt, "line {number}: {name} has two conditions")?
@@ -90,7 +93,10 @@ fn print_fault(rt: &LibcRuntime, number: usize, fault: RuleFault) -> Result<(), 
             let name = field_name(field);
             let reason = refusal.reason.number();
             let place = refusal.place;
-            println!(rt, "line {number}: {name} has an unlawful condition (refusal {reason}, part columns, place {place})")?
+            println!(
+                rt,
+                "line {number}: {name} has an unlawful condition (refusal {reason}, part columns, place {place})"
+            )?
         }
     }
     Ok(())

@@ -6,6 +6,7 @@ mod field_column;
 mod input;
 mod listed;
 mod sheet;
+
 use input::Input;
 use listed::Listed;
 use std::error::AnyError;

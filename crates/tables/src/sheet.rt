@@ -1,6 +1,6 @@
 // What is printed.
-use crate::listed::Listed;
 use crate::input::Shown;
+use crate::listed::Listed;
 use notation::rule::Rule;
 use std::error::AnyError;
 
