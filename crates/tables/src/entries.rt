@@ -103,7 +103,7 @@ fn addresses_below(length: u32) -> u64 {
     1u64 << (32u32.saturating_sub(length))
 }
 
-pub fn address_table(
+fn address_table(
     heap: Global,
     field: &FieldColumn<Inverting<AddressColumn>>,
 ) -> Result<Table, AllocError> {
@@ -136,7 +136,7 @@ fn port_starts(
     Ok(starts)
 }
 
-pub fn port_table(
+fn port_table(
     heap: Global,
     field: &FieldColumn<Inverting<ValueColumn>>,
 ) -> Result<Table, AllocError> {
@@ -152,7 +152,7 @@ pub fn port_table(
 }
 
 // The first protocol of each row: protocols with the same row share an entry.
-pub fn protocol_table(
+fn protocol_table(
     heap: Global,
     field: &FieldColumn<ProtocolColumn>,
 ) -> Result<Table, AllocError> {
@@ -165,7 +165,7 @@ pub fn protocol_table(
 }
 
 // The first set of flags of each row: sets with the same row share an entry.
-pub fn flags_table(heap: Global, field: &FieldColumn<FlagsColumn>) -> Result<Table, AllocError> {
+fn flags_table(heap: Global, field: &FieldColumn<FlagsColumn>) -> Result<Table, AllocError> {
     let mut table = Table::new(heap, field.name);
     for bits in 0..64u8 {
         let label = format!(heap, "{bits}")?;
@@ -176,7 +176,7 @@ pub fn flags_table(heap: Global, field: &FieldColumn<FlagsColumn>) -> Result<Tab
     Ok(table)
 }
 
-pub fn label_table(heap: Global, field: &FieldColumn<LabelColumn>) -> Result<Table, AllocError> {
+fn label_table(heap: Global, field: &FieldColumn<LabelColumn>) -> Result<Table, AllocError> {
     let mut table = Table::new(heap, field.name);
     let label = String::from_str(heap, "new")?;
     table.push(label, field.row(Some(Label::New)))?;
@@ -185,4 +185,63 @@ pub fn label_table(heap: Global, field: &FieldColumn<LabelColumn>) -> Result<Tab
     let label = String::from_str(heap, "invalid")?;
     table.push(label, field.row(Some(Label::Invalid)))?;
     Ok(table)
+}
+
+// A name that each condition's own bytes spell, where they spell one.
+fn interface_table(heap: Global, field: &FieldColumn<Inverting<NameColumn>>) -> Result<Table, AllocError> {
+    let mut table = Table::new(heap, field.name);
+    for condition in &field.conditions {
+        if let Plain::Is(pattern) = condition.condition() {
+            push_name(heap, &mut table, field, pattern)?;
+        }
+    }
+    Ok(table)
+}
+
+fn push_name(heap: Global, table: &mut Table, field: &FieldColumn<Inverting<NameColumn>>, pattern: NamePattern) -> Result<(), AllocError> {
+    match pattern {
+        NamePattern::Whole(name) => push_bytes(heap, table, field, name.as_slice()),
+        NamePattern::Beginning(beginning) => push_bytes(heap, table, field, beginning.as_slice()),
+    }
+}
+
+fn push_bytes(heap: Global, table: &mut Table, field: &FieldColumn<Inverting<NameColumn>>, bytes: &[u8]) -> Result<(), AllocError> {
+    if let Ok(name) = InterfaceName::new(bytes) {
+        let mut label = String::new(heap);
+        for byte in bytes {
+            label.push(char::from(*byte))?;
+        }
+        table.push_new(label, field.row(Some(name)))?;
+    }
+    Ok(())
+}
+
+// The tables of the used columns, in the fixed order.
+pub fn tables(heap: Global, listed: &Listed) -> Result<Vec<Table>, AllocError> {
+    let mut tables = Vec::new(heap);
+    if listed.source.is_used() {
+        tables.push(address_table(heap, &listed.source)?)?;
+    }
+    if listed.destination.is_used() {
+        tables.push(address_table(heap, &listed.destination)?)?;
+    }
+    if listed.protocol.is_used() {
+        tables.push(protocol_table(heap, &listed.protocol)?)?;
+    }
+    if listed.source_port.is_used() {
+        tables.push(port_table(heap, &listed.source_port)?)?;
+    }
+    if listed.destination_port.is_used() {
+        tables.push(port_table(heap, &listed.destination_port)?)?;
+    }
+    if listed.flags.is_used() {
+        tables.push(flags_table(heap, &listed.flags)?)?;
+    }
+    if listed.label.is_used() {
+        tables.push(label_table(heap, &listed.label)?)?;
+    }
+    if listed.interface.is_used() {
+        tables.push(interface_table(heap, &listed.interface)?)?;
+    }
+    Ok(tables)
 }
