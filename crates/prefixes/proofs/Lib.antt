@@ -1,0 +1,7 @@
+mod StringLaws
+mod StoredLaws
+mod EditLaws
+mod BitLaws
+mod RangeLaws
+mod StretchLaws
+mod IndexLaws

@@ -1,0 +1,10 @@
+// Columns of conditions that ask how a value begins.
+mod bits;
+mod compare;
+mod indexed;
+mod prefix;
+mod ranges;
+mod search;
+mod set;
+mod stretches;
+mod symbols;
