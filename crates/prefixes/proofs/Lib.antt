@@ -5,3 +5,7 @@ mod BitLaws
 mod RangeLaws
 mod StretchLaws
 mod IndexLaws
+mod SomeLaws
+mod Pigeons
+mod EachLaws
+mod FrontLaws

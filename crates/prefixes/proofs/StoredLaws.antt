@@ -5,9 +5,7 @@ use mathlib.Core.Bool.{Bool, true, false, cond}
 use mathlib.Core.List.{List, [], _∷_, map}
 use mathlib.Core.Logic.{_⊎_, inl, inr, ⊎-elim, ∥∥₁-elim}
 use denote.Struct.Props.{props}
-use denote.Struct.Record.{also-prop}
 use std.HLevel.{Π-prop}
-use native.Mathlib.Bridge.{le-prop}
 use native.Mathlib.Omega.{arith}
 use lib.ListN.{length, getD, set}
 use Rattle.std.proofs.shelf.Tests.{both-ways, cases-eq, cases-lt, cases-bool}
@@ -15,7 +13,7 @@ use Rattle.std.proofs.shelf.Lists.{getD-map, length-map, nil-from-length, getD-
 use Rattle.fields.specs.Strings.{begins}
 use Rattle.prefixes.specs.Strings.{ordered, common}
 use Rattle.prefixes.specs.Spelled.{spelled}
-use Rattle.prefixes.specs.Stored.{strings, at, Ascending, Covers, LinkedTo, Longest, Fits}
+use Rattle.prefixes.specs.Stored.{strings, at, Ascending, Covers, Parent, LinkedTo, Longest, Fits}
 use Rattle.prefixes.specs.declared.symbols.Symbols.{Symbols}
 use Rattle.prefixes.proofs.StringLaws.{begins-refl, begins-trans, begins-ordered, ordered-trans, ordered-total, between, common-between}
 
@@ -23,11 +21,11 @@ use Rattle.prefixes.proofs.StringLaws.{begins-refl, begins-trans, begins-order
 pub ascending-of : (ss : List (List ℕ)) → ∥ Ascending ss ∥₁ → Ascending ss
 ascending-of ss h = ∥∥₁-elim h (search props depth 9) (λ a. a)
 
-covers-prop : (ss : List (List ℕ)) (key : List ℕ) (n r : ℕ) → IsProp (Covers ss key n r)
-covers-prop ss key n r = search props depth 8
+parent-prop : (ss : List (List ℕ)) (i r : ℕ) → IsProp (Parent ss i r)
+parent-prop ss i r = search props depth 12
 
 pub linked-of : (ss : List (List ℕ)) (links : List ℕ) (n : ℕ) → ∥ LinkedTo ss links n ∥₁ → LinkedTo ss links n
-linked-of ss links n h = ∥∥₁-elim h (Π-prop (λ i. Π-prop (λ pos. Π-prop (λ l. also-prop le-prop (λ back. covers-prop ss (at ss i) i (getD links i 0)))))) (λ a. a)
+linked-of ss links n h = ∥∥₁-elim h (Π-prop (λ i. Π-prop (λ pos. Π-prop (λ l. parent-prop ss i (getD links i 0))))) (λ a. a)
 
 -- an element that was read spells the string at its place
 pub read-at : (xs : List Symbols) (i : ℕ) (x : Symbols) → i < length xs → x ≡ getD xs i x → spelled x ≡ at (strings xs) i
@@ -101,14 +99,13 @@ some-rank ss key n a high =
     (cases-lt 0 n)
 
 -- one link more
-pub linked-more : (ss : List (List ℕ)) (links : List ℕ) (i r : ℕ) → i < length links → LinkedTo ss links i → r < i → Covers ss (at ss i) i r → LinkedTo ss (set links i r) (i + 1)
-linked-more ss links i r h linked lt c k pos l =
+pub linked-more : (ss : List (List ℕ)) (links : List ℕ) (i r : ℕ) → i < length links → LinkedTo ss links i → Parent ss i r → LinkedTo ss (set links i r) (i + 1)
+linked-more ss links i r h linked new k pos l =
     ⊎-elim
     (λ e. let s : getD (set links i r) k 0 ≡ r = ap (λ (n : ℕ). getD (set links i r) n 0) e ∙ getD-set-same links i r 0 h in
-    (omega arith, λ j lj b. subst (λ (n : ℕ). (j ≤ n) × (begins (at ss j) (at ss n) ≡ true)) (sym s) (c j (omega arith) (subst (λ (n : ℕ). begins (at ss j) (at ss n) ≡ true) e b))))
+    subst (λ (n : ℕ). Parent ss k n) (sym s) (subst (λ (n : ℕ). Parent ss n r) (sym e) new))
     (λ ne. let s : getD (set links i r) k 0 ≡ getD links k 0 = getD-set-other links i k r 0 ne in
-    let old = linked k pos (omega arith) in
-    (omega (arith, old .0), λ j lj b. subst (λ (n : ℕ). (j ≤ n) × (begins (at ss j) (at ss n) ≡ true)) (sym s) (old .1 j lj b)))
+    subst (λ (n : ℕ). Parent ss k n) (sym s) (linked k pos (omega arith)))
     (cases-eq k i)
 
 -- a string that no stored one up to the last before it equals is behind them all

@@ -7,3 +7,5 @@ pub mod Placed
 pub mod Ranges
 pub mod Indexed
 pub mod Numbered
+pub mod Fronts
+pub mod Keyed

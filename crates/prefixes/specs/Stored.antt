@@ -24,9 +24,13 @@ Ascending ss = (0 < length ss) × (length (at ss 0) ≡ 0) × ((i j : ℕ) → i
 abbrev pub Covers : List (List ℕ) → List ℕ → ℕ → ℕ → Type 0
 Covers ss key n r = (j : ℕ) → j < n → begins (at ss j) key ≡ true → (j ≤ r) × (begins (at ss j) (at ss r) ≡ true)
 
--- each of the first n strings but the empty one has a link back to one that its own fronts begin
+-- the string at r is the longest of those before place i that begin the string there
+abbrev pub Parent : List (List ℕ) → ℕ → ℕ → Type 0
+Parent ss i r = (r < i) × Covers ss (at ss i) i r × (begins (at ss r) (at ss i) ≡ true)
+
+-- each of the first n strings but the empty one has a link back to its parent
 abbrev pub LinkedTo : List (List ℕ) → List ℕ → ℕ → Type 0
-LinkedTo ss links n = (i : ℕ) → 0 < i → i < n → (getD links i 0 < i) × Covers ss (at ss i) i (getD links i 0)
+LinkedTo ss links n = (i : ℕ) → 0 < i → i < n → Parent ss i (getD links i 0)
 
 -- the longest stored string that begins the key
 pub record Longest (ss : List (List ℕ)) (key : List ℕ) (r : ℕ) : Type 0 where

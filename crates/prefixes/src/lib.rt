@@ -2,6 +2,7 @@
 mod bits;
 mod compare;
 mod indexed;
+mod keyed;
 mod prefix;
 mod ranges;
 mod search;

@@ -6,7 +6,7 @@ ghost use lib.ListN.{length};
 ghost use Rattle.std.specs.Vec.{made};
 ghost use Rattle.std.specs.Holes.{inserted, removed};
 ghost use Rattle.prefixes.specs.Spelled.{spelled};
-ghost use Rattle.prefixes.specs.Stored.{Longest, Fits};
+ghost use Rattle.prefixes.specs.Stored.{Longest, Fits, Parent, strings};
 ghost use Rattle.prefixes.specs.Bits.{bitsOf};
 ghost use Rattle.prefixes.specs.Held.{held};
 ghost use Rattle.prefixes.specs.Indexed.{kept};
@@ -62,6 +62,22 @@ impl IndexedSet {
         ensures { λ r. ⌜ Longest (kept (now (self .entry))) (spelled (now (key .entry))) r ⌝ }
     {
         self.set.longest(key)
+    }
+
+    // The place of the longest other string that begins the string at a place, which is not the empty one.
+    pub(crate) fn parent(&self, at: usize) -> usize
+        requires above { ⌜ 0 < at ⌝ }
+        requires within { ⌜ at < length (kept (now self)) ⌝ }
+        ensures { λ r. ⌜ Parent (kept (now (self .entry))) at r ⌝ }
+    {
+        self.set.parent(at)
+    }
+
+    // The strings.
+    pub(crate) fn as_slice(&self) -> &[Symbols]
+        ensures { λ r. ⌜ strings (now r) ≡ kept (now (self .entry)) ⌝ }
+    {
+        self.set.as_slice()
     }
 
     // The place of the longest stored string that begins the bits of a number.

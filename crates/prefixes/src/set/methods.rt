@@ -8,7 +8,7 @@ ghost use Rattle.std.specs.Of.Vec.{vec-items};
 ghost use Rattle.std.specs.Vec.{made};
 ghost use Rattle.std.specs.Holes.{inserted, removed};
 ghost use Rattle.prefixes.specs.Spelled.{spelled};
-ghost use Rattle.prefixes.specs.Stored.{Longest, Fits, strings};
+ghost use Rattle.prefixes.specs.Stored.{Longest, Fits, Parent, strings};
 ghost use Rattle.prefixes.specs.Held.{held};
 ghost use Rattle.prefixes.specs.Placed.{Placed};
 use super::PrefixSet;
@@ -48,6 +48,15 @@ impl PrefixSet {
         ensures { λ r. ⌜ Longest (held (now (self .entry))) (spelled (now (key .entry))) r ⌝ }
     {
         search::longest(&self.stored, &self.links, key.as_slice())
+    }
+
+    // The place of the longest other string that begins the string at a place, which is not the empty one.
+    pub(crate) fn parent(&self, at: usize) -> usize
+        requires above { ⌜ 0 < at ⌝ }
+        requires within { ⌜ at < length (held (now self)) ⌝ }
+        ensures { λ r. ⌜ Parent (held (now (self .entry))) at r ⌝ }
+    {
+        self.links[at]
     }
 
     // Where the string is stored, or where it belongs.

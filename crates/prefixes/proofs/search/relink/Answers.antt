@@ -31,9 +31,13 @@ pub loop-i-again : need.loop-i-again
 loop-i-again c =
     let xs = c .args .stored .now in
     let i = c .loop-i .i in
-    linked-more (strings xs) (c .loop-i .links) i (c .ascend-link .result) (omega arith) (c .loop-i .inv) (omega (arith, c .ascend-link .ensures .bound))
-    (λ j l b. c .ascend-link .ensures .covers j (omega arith)
-    (subst (λ (s : List ℕ). begins (at (strings xs) j) s ≡ true) (sym (c .as-slice .ensures ∙ read-at xs i (c .index-stored-i .result) (c .loop-i-test .taken) (c .index-stored-i .is))) b))
+    let r = c .ascend-link .result in
+    let key : c .as-slice .result .now ≡ at (strings xs) i = c .as-slice .ensures ∙ read-at xs i (c .index-stored-i .result) (c .loop-i-test .taken) (c .index-stored-i .is) in
+    linked-more (strings xs) (c .loop-i .links) i r (omega arith) (c .loop-i .inv) (
+      omega (arith, c .ascend-link .ensures .bound),
+      (λ j l b. c .ascend-link .ensures .covers j (omega arith) (subst (λ (s : List ℕ). begins (at (strings xs) j) s ≡ true) (sym key) b)),
+      subst (λ (s : List ℕ). begins (at (strings xs) r) s ≡ true) key (c .ascend-link .ensures .begun),
+    )
 
 pub returns : need.returns
 returns c = λ i l h. c .loop-i .inv i l (omega arith)
