@@ -1,1 +1,8 @@
+pub mod Accepted
 mod Turned
+mod Tables
+mod Coding
+pub mod Pigeons
+pub mod Some
+mod Climbing
+mod Naming

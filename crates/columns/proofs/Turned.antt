@@ -22,6 +22,7 @@ use Rattle.fields.specs.declared.condition.sided.Sided.{Sided}
 use Rattle.columns.specs.Edits.{insert-answer, insert-after, remove-answer, remove-after}
 use Rattle.fields.specs.Conditions.{sided-admits}
 use Rattle.columns.specs.Sides.{sided}
+use Rattle.columns.proofs.Accepted.{insert-ok, insert-after-ok, insert-after-err, remove-ok, remove-after-ok, remove-after-err}
 
 pub length-sided : {K : Type 0} (xs : List K) (t : ℕ → Bool) → length (sided xs t) ≡ length xs
 length-sided [] t = refl
@@ -81,46 +82,6 @@ sided-test holds v (x ∷ xs) t zero = sym (cond-true (ltb 0 (suc (length xs))) 
 sided-test holds v (x ∷ xs) t (suc i) = sided-test holds v xs (λ i. t (suc i)) i
     ∙ ap (λ b. cond b (cond (t (suc i)) (isSome v && not (getD (map (λ c. holds c v) xs) i false)) (getD (map (λ c. holds c v) xs) i false)) false)
     (sym (leb·suc-suc (suc i) (length xs)))
-
--- an accepted insertion
-insert-ok : (p n : ℕ) → Ok tt ≡ insert-answer p n → (1 ≤ p) × (p ≤ n + 1) × (n < 512)
-insert-ok p n e = ⊎-elim
-    (λ a. ⊎-elim
-    (λ b. let q = and-parts (leb 1 p) (leb p (n + 1)) a in (leb-true 1 p (q .0), leb-true p (n + 1) (q .1), ltb-true n 512 b))
-    (λ b. let z : _≡_ {A = ℕ} 0 1 = cc in absurd (omega arith))
-    (cases-bool (ltb n 512)))
-    (λ a. let z : _≡_ {A = ℕ} 0 1 = cc in absurd (omega arith))
-    (cases-bool (leb 1 p && leb p (n + 1)))
-
-insert-after-ok : {K : Type 0} (p : ℕ) (c : K) (xs : List K) → 1 ≤ p → p ≤ length xs + 1 → length xs < 512 → insert-after p c xs ≡ inserted xs (p - 1) c
-insert-after-ok p c xs l h f =
-    cond-true (leb 1 p && leb p (length xs + 1)) _ _ (and-from (leb 1 p) (leb p (length xs + 1)) (le-leb 1 p l) (le-leb p (length xs + 1) h))
-    ∙ cond-true (ltb (length xs) 512) _ _ (lt-ltb (length xs) 512 f)
-
-insert-after-err : {K : Type 0} (p : ℕ) (c : K) (xs : List K) (r : Refusal) → Err r ≡ insert-answer p (length xs) → insert-after p c xs ≡ xs
-insert-after-err p c xs r e = ⊎-elim
-    (λ a. ⊎-elim
-    (λ b. let z : _≡_ {A = ℕ} 0 1 = cc in absurd (omega arith))
-    (λ b. cc)
-    (cases-bool (ltb (length xs) 512)))
-    (λ a. cc)
-    (cases-bool (leb 1 p && leb p (length xs + 1)))
-
-remove-ok : (p n : ℕ) → Ok tt ≡ remove-answer p n → (1 ≤ p) × (p ≤ n)
-remove-ok p n e = ⊎-elim
-    (λ a. let q = and-parts (leb 1 p) (leb p n) a in (leb-true 1 p (q .0), leb-true p n (q .1)))
-    (λ a. let z : _≡_ {A = ℕ} 0 1 = cc in absurd (omega arith))
-    (cases-bool (leb 1 p && leb p n))
-
-remove-after-ok : {K : Type 0} (p : ℕ) (xs : List K) → 1 ≤ p → p ≤ length xs → remove-after p xs ≡ removed xs (p - 1)
-remove-after-ok p xs l h =
-    cond-true (leb 1 p && leb p (length xs)) _ _ (and-from (leb 1 p) (leb p (length xs)) (le-leb 1 p l) (le-leb p (length xs) h))
-
-remove-after-err : {K : Type 0} (p : ℕ) (xs : List K) (r : Refusal) → Err r ≡ remove-answer p (length xs) → remove-after p xs ≡ xs
-remove-after-err p xs r e = ⊎-elim
-    (λ a. let z : _≡_ {A = ℕ} 0 1 = cc in absurd (omega arith))
-    (λ a. cc)
-    (cases-bool (leb 1 p && leb p (length xs)))
 
 pub insert-turned : {K : Type 0} (p : ℕ) (c : K) (b : Bool) (xs ys : List K) (t u : ℕ → Bool) → Ok tt ≡ insert-answer p (length xs)
     → ys ≡ insert-after p c xs → ((i : ℕ) → u i ≡ cond (ltb i 512) (put-in t (p - 1) b i) false)

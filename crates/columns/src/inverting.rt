@@ -39,19 +39,23 @@ pub impl<C: Column> Column for Inverting<C> as InvertingColumn {
     }
 
     fn insert(&mut self, position: usize, condition: Sided<C::Condition>) -> Result<(), Refusal> {
-        let answer = self.below.insert(position, condition.condition());
-        if answer.is_ok() {
-            self.inverted.insert(position - 1, condition.is_inverted());
+        match self.below.insert(position, condition.condition()) {
+            Ok(()) => {
+                self.inverted.insert(position - 1, condition.is_inverted());
+                Ok(())
+            }
+            Err(refusal) => Err(refusal),
         }
-        answer
     }
 
     fn remove(&mut self, position: usize) -> Result<(), Refusal> {
-        let answer = self.below.remove(position);
-        if answer.is_ok() {
-            self.inverted.remove(position - 1);
+        match self.below.remove(position) {
+            Ok(()) => {
+                self.inverted.remove(position - 1);
+                Ok(())
+            }
+            Err(refusal) => Err(refusal),
         }
-        answer
     }
 
     fn read(&self, value: Option<<C::Condition as Condition>::Value>, row: &mut Row)

@@ -4,6 +4,8 @@ pub mod Labels
 pub mod Strings
 pub mod NameBytes
 pub mod Names
+pub mod Passing
 pub mod Addresses
 pub mod NamePatterns
 pub mod Making
+pub mod Admitting

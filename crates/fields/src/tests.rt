@@ -3,5 +3,5 @@ pub mod address;
 pub mod flags;
 pub mod label;
 pub mod name;
-pub mod port;
+pub mod passing;
 pub mod protocol;

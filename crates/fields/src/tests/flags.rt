@@ -1,10 +1,7 @@
 // The flags that are wanted among those of a mask.
-use crate::condition::Test;
-use crate::values::flags::Flags;
 ghost use mathlib.Core.Path.{_≡_};
 ghost use Prim.Native.Nat.{_<_};
 ghost use lib.Bits.{bitAnd};
-ghost use lib.Dec.{eqb};
 ghost use Rattle.std.specs.Options.{Cases};
 
 // The mask is below 64, and the wanted bits lie inside it.
@@ -37,15 +34,5 @@ impl FlagsPattern {
         ensures result { λ r. ⌜ r ≡ now (self .entry) .wanted ⌝ }
     {
         self.wanted
-    }
-}
-
-pub impl Test for FlagsPattern as FlagsPatternTest {
-    type Value = Flags;
-
-    ghost passes = { λ p v. eqb (bitAnd (v .bits) (p .mask)) (p .wanted) };
-
-    fn passes_on(&self, value: Flags) -> bool {
-        value.bits() & self.mask == self.wanted
     }
 }

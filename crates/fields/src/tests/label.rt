@@ -1,10 +1,7 @@
 // A set of labels, not empty.
-use crate::condition::Test;
-use crate::values::label::Label;
 ghost use mathlib.Core.Path.{_≡_};
 ghost use Prim.Native.Nat.{_<_};
 ghost use Rattle.std.specs.Options.{Cases};
-ghost use Rattle.fields.specs.Labels.{in-set};
 
 // The sum of the values of its labels: from 1 to 7.
 #[derive(Clone, Copy)]
@@ -29,15 +26,5 @@ impl LabelSet {
         ensures result { λ r. ⌜ r ≡ now (self .entry) .members ⌝ }
     {
         self.members
-    }
-}
-
-pub impl Test for LabelSet as LabelSetTest {
-    type Value = Label;
-
-    ghost passes = { λ s v. in-set (s .members) v };
-
-    fn passes_on(&self, value: Label) -> bool {
-        self.members & value.value() != 0
     }
 }

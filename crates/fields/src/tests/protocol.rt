@@ -1,9 +1,6 @@
 // One protocol, from 1 to 255.
-use crate::condition::Test;
-use crate::values::protocol::Protocol;
 ghost use mathlib.Core.Path.{_≡_};
 ghost use Prim.Native.Nat.{_<_};
-ghost use lib.Dec.{eqb};
 ghost use Rattle.std.specs.Options.{Cases};
 
 #[derive(Clone, Copy)]
@@ -27,15 +24,5 @@ impl ProtocolNumber {
         ensures result { λ r. ⌜ r ≡ now (self .entry) .number ⌝ }
     {
         self.number
-    }
-}
-
-pub impl Test for ProtocolNumber as ProtocolNumberTest {
-    type Value = Protocol;
-
-    ghost passes = { λ p v. eqb (v .number) (p .number) };
-
-    fn passes_on(&self, value: Protocol) -> bool {
-        value.number == self.number
     }
 }
