@@ -21,8 +21,8 @@ use Rattle.rows.specs.Shows.{Shows}
 use Rattle.prefixes.specs.Fronts.{covers, names, named, has, Told, Stores, StoresWith}
 use Rattle.prefixes.specs.Stored.{at, Ascending, Parent, Longest, Fits}
 use Rattle.prefixes.specs.Strings.{ordered}
-use Rattle.prefixes.proofs.Pigeons.{pigeons}
-use Rattle.prefixes.proofs.SomeLaws.{some-inserted, some-removed, some-at, some-none, some-where}
+use Rattle.columns.proofs.Pigeons.{pigeons}
+use Rattle.columns.proofs.Some.{some-inserted, some-removed, some-at, some-none, some-where}
 use Rattle.prefixes.proofs.StringLaws.{begins-refl, begins-trans, begins-ordered, begins-same, ordered-antisym}
 
 same-refl : (s : List ℕ) → same s s ≡ true

@@ -5,7 +5,5 @@ mod BitLaws
 mod RangeLaws
 mod StretchLaws
 mod IndexLaws
-mod SomeLaws
-mod Pigeons
-mod EachLaws
 mod FrontLaws
+mod ListedLaws

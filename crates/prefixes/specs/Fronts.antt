@@ -1,6 +1,6 @@
 -- Conditions by their fronts: none for "any", else the string that a value has to begin with. And the strings and rows that serve them.
 use mathlib.Core.Bool.{Bool, true, false, _||_}
-use mathlib.Core.List.{List, [], _∷_}
+use mathlib.Core.List.{List}
 use mathlib.Core.Path.{_≡_}
 use Prim.Native.Nat.{ℕ, _<_}
 use lib.ListN.{length}
@@ -9,6 +9,7 @@ use Rattle.std.specs.declared.option.Option.the-variants.{Some, None}
 use Rattle.fields.specs.Strings.{begins, same}
 use Rattle.rows.specs.declared.row.Row.{Row}
 use Rattle.rows.specs.Shows.{TableShows}
+use Rattle.columns.specs.Keys.{some}
 use Rattle.prefixes.specs.Stored.{at}
 
 -- the condition holds on every value that begins with s
@@ -20,11 +21,6 @@ covers (Some p) s = begins p s
 abbrev pub names : Option (List ℕ) → List ℕ → Bool
 names None s = false
 names (Some p) s = same p s
-
--- whether a test holds of some element
-abbrev pub some : {X : Type 0} → (X → Bool) → List X → Bool
-some test [] = false
-some test (x ∷ xs) = test x || some test xs
 
 -- whether some condition has this very front
 abbrev pub named : List (Option (List ℕ)) → List ℕ → Bool

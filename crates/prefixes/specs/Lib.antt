@@ -9,3 +9,5 @@ pub mod Indexed
 pub mod Numbered
 pub mod Fronts
 pub mod Keyed
+pub mod Listed
+pub mod Tables

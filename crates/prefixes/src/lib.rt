@@ -9,3 +9,4 @@ mod search;
 mod set;
 mod stretches;
 mod symbols;
+mod table;

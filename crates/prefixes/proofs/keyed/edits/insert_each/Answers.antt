@@ -9,7 +9,7 @@ use Rattle.rows.specs.Tables.{Put}
 use Rattle.prefixes.specs.Fronts.{covers}
 use Rattle.prefixes.specs.Spelled.{spelled}
 use Rattle.prefixes.specs.Stored.{strings, at}
-use Rattle.prefixes.proofs.EachLaws.{each-none, each-more}
+use Rattle.columns.proofs.Tables.{each-none, each-more}
 use Rattle.prefixes.proofs.StoredLaws.{read-at}
 use Rattle.prefixes.proofs.keyed.edits.insert_each.Needs as need
 

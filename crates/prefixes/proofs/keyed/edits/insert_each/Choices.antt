@@ -3,7 +3,7 @@ use Rattle.rows.specs.Tables.{Put}
 use Rattle.prefixes.specs.Fronts.{covers}
 use Rattle.prefixes.specs.Spelled.{spelled}
 use Rattle.prefixes.specs.Stored.{strings, at}
-use Rattle.prefixes.proofs.EachLaws.{Each}
+use Rattle.columns.proofs.Tables.{Each}
 use Rattle.prefixes.proofs.keyed.edits.insert_each.Given as given
 
 abbrev pub Inv-loop-i : given.InvT-loop-i

@@ -1,7 +1,7 @@
 use native.Mathlib.Omega.{arith}
 use mathlib.Core.List.{[]}
 use Rattle.rows.specs.Tables.{Out}
-use Rattle.prefixes.proofs.EachLaws.{each-none, each-more}
+use Rattle.columns.proofs.Tables.{each-none, each-more}
 use Rattle.prefixes.proofs.keyed.edits.remove_each.Needs as need
 
 pub loop-i-holds : need.loop-i-holds

@@ -1,5 +1,5 @@
 use Rattle.rows.specs.Tables.{Out}
-use Rattle.prefixes.proofs.EachLaws.{Each}
+use Rattle.columns.proofs.Tables.{Each}
 use Rattle.prefixes.proofs.keyed.edits.remove_each.Given as given
 
 abbrev pub Inv-loop-i : given.InvT-loop-i
