@@ -7,3 +7,4 @@ mod StretchLaws
 mod IndexLaws
 mod FrontLaws
 mod ListedLaws
+mod SpellingLaws

@@ -15,19 +15,19 @@ use Rattle.rows.specs.Shows.{Shows}
 use Rattle.prefixes.specs.Fronts.{covers}
 use Rattle.prefixes.specs.Listed.{front-of, fronts-of}
 
-covers-admits : {T V : Type 0} (passes : T → V → Bool) (front : T → List ℕ) (spelling : V → List ℕ) → ((t : T) (v : V) → passes t v ≡ begins (front t) (spelling v))
-    → (v : V) (cs : List (Plain T)) → map (λ f. covers f (spelling v)) (fronts-of front cs) ≡ map (λ c. plain-admits passes c (Some v)) cs
-covers-admits passes front spelling meets v [] = refl
-covers-admits passes front spelling meets v (Any ∷ cs) = let a = covers-admits passes front spelling meets v cs in cc
-covers-admits passes front spelling meets v (Is t ∷ cs) =
-    let a = covers-admits passes front spelling meets v cs in
-    let b = meets t v in
+covers-admits : {T V : Type 0} (passes : T → V → Bool) (front : T → List ℕ) (v : V) (s : List ℕ) → ((t : T) → passes t v ≡ begins (front t) s)
+    → (cs : List (Plain T)) → map (λ f. covers f s) (fronts-of front cs) ≡ map (λ c. plain-admits passes c (Some v)) cs
+covers-admits passes front v s meets [] = refl
+covers-admits passes front v s meets (Any ∷ cs) = let a = covers-admits passes front v s meets cs in cc
+covers-admits passes front v s meets (Is t ∷ cs) =
+    let a = covers-admits passes front v s meets cs in
+    let b = meets t in
     cc
 
 -- a row that shows the fronts that cover a value's spelling shows the conditions that hold on the value
-pub shows-admits : {T V : Type 0} (passes : T → V → Bool) (front : T → List ℕ) (spelling : V → List ℕ) → ((t : T) (v : V) → passes t v ≡ begins (front t) (spelling v))
-    → (v : V) (value : Option V) → value ≡ Some v → (cs : List (Plain T)) (row : Row) → Shows row (λ f. covers f (spelling v)) (fronts-of front cs)
+pub shows-admits : {T V : Type 0} (passes : T → V → Bool) (front : T → List ℕ) (v : V) (s : List ℕ) → ((t : T) → passes t v ≡ begins (front t) s)
+    → (value : Option V) → value ≡ Some v → (cs : List (Plain T)) (row : Row) → Shows row (λ f. covers f s) (fronts-of front cs)
     → Shows row (λ c. plain-admits passes c value) cs
-shows-admits passes front spelling meets v value e cs row shows i =
-    shows i ∙ ap (λ (bs : List Bool). getD bs i false) (covers-admits passes front spelling meets v cs)
+shows-admits passes front v s meets value e cs row shows i =
+    shows i ∙ ap (λ (bs : List Bool). getD bs i false) (covers-admits passes front v s meets cs)
     ∙ sym (ap (λ o. getD (map (λ c. plain-admits passes c o) cs) i false) e)

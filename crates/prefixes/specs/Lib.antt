@@ -11,3 +11,4 @@ pub mod Fronts
 pub mod Keyed
 pub mod Listed
 pub mod Tables
+pub mod Spelling

@@ -2,7 +2,7 @@
 use super::Symbols;
 ghost use mathlib.Core.Path.{_≡_};
 ghost use mathlib.Core.List.{[], _∷_, _++_};
-ghost use Prim.Native.Nat.{_<_};
+ghost use Prim.Native.Nat.{_≤_, _<_};
 ghost use lib.ListN.{length};
 ghost use Rattle.prefixes.specs.Spelled.{spelled};
 
@@ -15,6 +15,18 @@ impl Symbols {
             bytes: [0; 130],
             len: 0,
         }
+    }
+
+    // The string of these symbols.
+    pub(crate) fn of(symbols: &[u8]) -> Symbols
+        requires { ⌜ length (now symbols) ≤ 130 ⌝ }
+        ensures { λ r. ⌜ spelled r ≡ now (symbols .entry) ⌝ }
+    {
+        let mut string = Symbols::new();
+        for symbol in symbols {
+            string.push(*symbol);
+        }
+        string
     }
 
     // One symbol more, behind the others.

@@ -12,14 +12,18 @@ pub returns-in-Some-number : need.returns-in-Some-number
 returns-in-Some-number g c =
     let cs = vec-items (c .args .self .now .conditions) in
     let fs = fronts-of (g .T·Prefix .front) cs in
+    let v = c .in-Some .present in
     let row = c .row-of-number .result in
-    shows-admits (g .T·Test .passes) (g .T·Prefix .front) (g .T·Prefix .spelling) (g .T·Prefix·met .meets) (c .in-Some .present) (c .args .value) (c .in-Some .is) cs row
+    shows-admits (g .T·Test .passes) (g .T·Prefix .front) v (g .T·Prefix .spelling v) (λ t. g .T·Prefix·met .meets t v (c .number .ensures .sound)) (c .args .value)
+    (c .in-Some .is) cs row
     (subst (λ (s : List ℕ). Shows row (λ f. covers f s) fs) (sym (c .in-Some-number .ensures tt .result)) (c .row-of-number .ensures fs (c .pre .told) (c .pre .stored)))
 
 pub returns-in-None-number : need.returns-in-None-number
 returns-in-None-number g c =
     let cs = vec-items (c .args .self .now .conditions) in
     let fs = fronts-of (g .T·Prefix .front) cs in
+    let v = c .in-Some .present in
     let row = c .row .result in
-    shows-admits (g .T·Test .passes) (g .T·Prefix .front) (g .T·Prefix .spelling) (g .T·Prefix·met .meets) (c .in-Some .present) (c .args .value) (c .in-Some .is) cs row
+    shows-admits (g .T·Test .passes) (g .T·Prefix .front) v (g .T·Prefix .spelling v) (λ t. g .T·Prefix·met .meets t v (c .number .ensures .sound)) (c .args .value)
+    (c .in-Some .is) cs row
     (subst (λ (s : List ℕ). Shows row (λ f. covers f s) fs) (c .spell .ensures .result) (c .row .ensures fs (c .pre .told) (c .pre .stored)))
