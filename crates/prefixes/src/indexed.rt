@@ -1,12 +1,12 @@
 // A set of strings that also finds numbers of 32 bits fast.
-ghost use Prim.Native.Nat.{_≤_, _<_};
-ghost use mathlib.Core.Path.{_≡_};
+use crate::set::PrefixSet;
 ghost use mathlib.Core.List.{map};
+ghost use mathlib.Core.Path.{_≡_};
+ghost use Prim.Native.Nat.{_≤_, _<_};
 ghost use lib.ListN.{getD};
 ghost use Rattle.std.specs.Of.Vec.{vec-items, vec-cap};
 ghost use Rattle.prefixes.specs.Held.{held};
 ghost use Rattle.prefixes.specs.Ranges.{low as lowOf, past as pastOf, Padded, Stretched};
-use crate::set::PrefixSet;
 
 mod methods;
 

@@ -1,8 +1,8 @@
 // What a test has to offer to be listed by a column of prefixes.
 use crate::symbols::Symbols;
 use fields::condition::Test;
-ghost use mathlib.Core.Path.{_≡_};
 ghost use mathlib.Core.List.{List};
+ghost use mathlib.Core.Path.{_≡_};
 ghost use Prim.Native.Nat.{ℕ};
 ghost use Rattle.fields.specs.Strings.{begins};
 ghost use Rattle.prefixes.specs.Numbered.{Numbered};

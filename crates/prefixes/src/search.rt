@@ -1,19 +1,18 @@
 // The search for a key among strings in the order of the alphabet.
-ghost use Prim.Native.Nat.{ℕ, _≤_, _<_, _+_};
-ghost use mathlib.Core.Path.{_≡_};
-ghost use mathlib.Core.Bool.{true, false};
-ghost use mathlib.Core.List.{[]};
-ghost use lib.ListN.{length};
-ghost use Rattle.prefixes.specs.Spelled.{spelled};
-ghost use Rattle.fields.specs.Strings.{begins as front};
-ghost use Rattle.prefixes.specs.Strings.{ordered as inOrder};
-ghost use Rattle.prefixes.specs.Stored.{strings, at as stringAt, Ascending, Covers, LinkedTo, Longest};
-ghost use Rattle.prefixes.specs.Placed.{Placed};
 use crate::compare::begins;
 use crate::compare::ordered;
 use crate::compare::precedes;
 use crate::compare::shared;
 use crate::symbols::Symbols;
+ghost use mathlib.Core.Bool.{true, false};
+ghost use mathlib.Core.List.{[]};
+ghost use mathlib.Core.Path.{_≡_};
+ghost use Prim.Native.Nat.{ℕ, _≤_, _<_, _+_};
+ghost use lib.ListN.{length};
+ghost use Rattle.fields.specs.Strings.{begins as front};
+ghost use Rattle.prefixes.specs.Placed.{Placed};
+ghost use Rattle.prefixes.specs.Stored.{strings, at as stringAt, Ascending, Covers, LinkedTo, Longest};
+ghost use Rattle.prefixes.specs.Strings.{ordered as inOrder};
 
 // Where a string is stored, or where it belongs.
 #[derive(Clone, Copy)]

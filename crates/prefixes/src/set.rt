@@ -1,12 +1,15 @@
 // A set of strings in the order of the alphabet.
-ghost use Prim.Native.Nat.{_≤_};
+use crate::symbols::Symbols;
 ghost use mathlib.Core.Path.{_≡_};
+ghost use Prim.Native.Nat.{_≤_};
 ghost use lib.ListN.{length};
 ghost use Rattle.std.specs.Of.Vec.{vec-items, vec-cap};
 ghost use Rattle.prefixes.specs.Stored.{strings, Ascending, LinkedTo};
-use crate::symbols::Symbols;
 
 mod methods;
+
+// A string for each condition of a full list, and the empty one.
+pub(crate) const ROOM: usize = 513;
 
 // Distinct strings in order, the empty one first, with room for 513.
 // A link leads from each string back to the longest that begins it.

@@ -1,14 +1,15 @@
 // The numbers of 32 bits, divided into stretches that have one longest stored front.
-ghost use Prim.Native.Nat.{ℕ, _≤_, _<_, _+_, _*_, _^_};
-ghost use mathlib.Core.Path.{_≡_};
-ghost use mathlib.Core.Bool.{true, false, cond};
+use crate::ranges::END;
+use crate::symbols::Symbols;
+ghost use mathlib.Core.Bool.{true, cond};
 ghost use mathlib.Core.List.{[], map};
+ghost use mathlib.Core.Path.{_≡_};
+ghost use Prim.Native.Nat.{ℕ, _≤_, _<_, _+_, _^_};
 ghost use lib.ListN.{length, getD};
 ghost use Rattle.fields.specs.Strings.{begins as front};
-ghost use Rattle.prefixes.specs.Stored.{strings, at as stringAt, Ascending, Covers, LinkedTo, Longest};
 ghost use Rattle.prefixes.specs.Bits.{bitsOf};
 ghost use Rattle.prefixes.specs.Ranges.{low as lowOf, past as pastOf, Padded, Stretched};
-use crate::symbols::Symbols;
+ghost use Rattle.prefixes.specs.Stored.{strings, at as stringAt, Ascending, Covers, LinkedTo, Longest};
 
 // A power of two, or nothing: a shift of the test itself, which compiles to no branch.
 fn step(forward: bool, shift: u32) -> usize
@@ -104,7 +105,7 @@ fn pad(starts: &mut [u64])
     ensures { λ _. ⌜ ((t : ℕ) → t < length (now (starts .entry)) → getD (now (starts .exit)) t 0 ≡ 4294967296) ⌝ }
 {
     for i in 0..starts.len() {
-        starts[i] = 4294967296;
+        starts[i] = END;
     }
 }
 
@@ -136,7 +137,7 @@ pub(crate) fn divide(
     let mut count = 0;
     pad(starts);
     starts[0] = 0;
-    while start < 4294967296 && count + 1 < starts.len() {
+    while start < END && count + 1 < starts.len() {
         last = advance(stored, lows, last, start);
         let answer = climb(stored, pasts, links, last, start);
         answers[count] = answer;

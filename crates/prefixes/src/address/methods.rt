@@ -12,7 +12,6 @@ use fields::values::address::Address;
 use rows::Row;
 use std::alloc::AllocError;
 use std::alloc::Global;
-ghost use mathlib.Core.Path.{_≡_};
 ghost use Rattle.std.specs.Of.Vec.{vec-items};
 ghost use Rattle.fields.specs.Addresses.{within};
 ghost use Rattle.fields.specs.Conditions.{plain-admits};

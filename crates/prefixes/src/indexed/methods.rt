@@ -1,35 +1,37 @@
 // The look-ups of an indexed set, and its edits.
-ghost use Prim.Native.Nat.{ℕ, _≤_, _<_, _+_};
-ghost use mathlib.Core.Path.{_≡_};
-ghost use mathlib.Core.List.{[], _∷_};
-ghost use lib.ListN.{length};
-ghost use Rattle.std.specs.Vec.{made};
-ghost use Rattle.std.specs.Holes.{inserted, removed};
-ghost use Rattle.prefixes.specs.Spelled.{spelled};
-ghost use Rattle.prefixes.specs.Stored.{Longest, Fits, Parent, strings};
-ghost use Rattle.prefixes.specs.Bits.{bitsOf};
-ghost use Rattle.prefixes.specs.Held.{held};
-ghost use Rattle.prefixes.specs.Indexed.{kept};
-ghost use Rattle.prefixes.specs.Placed.{Placed};
 use super::IndexedSet;
 use crate::bits::spell_bits;
+use crate::ranges::END;
 use crate::ranges::range_of;
 use crate::search::Place;
 use crate::set::PrefixSet;
+use crate::set::ROOM;
 use crate::stretches;
 use crate::symbols::Symbols;
 use std::alloc::AllocError;
 use std::alloc::Global;
+ghost use mathlib.Core.List.{[], _∷_};
+ghost use mathlib.Core.Path.{_≡_};
+ghost use Prim.Native.Nat.{_≤_, _<_};
+ghost use lib.ListN.{length};
+ghost use Rattle.std.specs.Holes.{inserted, removed};
+ghost use Rattle.std.specs.Vec.{made};
+ghost use Rattle.prefixes.specs.Bits.{bitsOf};
+ghost use Rattle.prefixes.specs.Indexed.{kept};
+ghost use Rattle.prefixes.specs.Placed.{Placed};
+ghost use Rattle.prefixes.specs.Spelled.{spelled};
+ghost use Rattle.prefixes.specs.Stored.{Longest, Fits, Parent, strings};
 
 impl IndexedSet {
+    // Only the empty string, with all the memory that the set will ever want.
     pub(crate) fn new(heap: Global) -> Result<IndexedSet, AllocError>
         ensures { λ r. ⌜ made r (λ s. kept s ≡ [] ∷ []) ⌝ }
     {
         let set = PrefixSet::new(heap)?;
-        let mut lows = Vec::with_capacity(heap, 513)?;
-        let mut pasts = Vec::with_capacity(heap, 513)?;
+        let mut lows = Vec::with_capacity(heap, ROOM)?;
+        let mut pasts = Vec::with_capacity(heap, ROOM)?;
         lows.push_reserved(0);
-        pasts.push_reserved(4294967296);
+        pasts.push_reserved(END);
         let mut starts = [0; 1025];
         let mut answers = [0; 1025];
         let count = stretches::divide(

@@ -3,19 +3,20 @@ use super::KeyedRows;
 use super::edits;
 use crate::indexed::IndexedSet;
 use crate::search::Place;
+use crate::set::ROOM;
 use crate::symbols::Symbols;
 use rows::Row;
 use std::alloc::AllocError;
 use std::alloc::Global;
-ghost use mathlib.Core.Path.{_≡_};
 ghost use mathlib.Core.Bool.{_||_};
 ghost use mathlib.Core.List.{List, []};
+ghost use mathlib.Core.Path.{_≡_};
 ghost use Prim.Native.Nat.{ℕ, _≤_, _<_};
 ghost use lib.ListN.{length};
-ghost use Rattle.std.specs.declared.option.Option.{Option};
 ghost use Rattle.std.specs.Holes.{inserted, removed};
 ghost use Rattle.std.specs.Options.{mapped};
 ghost use Rattle.std.specs.Vec.{made};
+ghost use Rattle.std.specs.declared.option.Option.{Option};
 ghost use Rattle.rows.specs.Shows.{Shows};
 ghost use Rattle.prefixes.specs.Bits.{bitsOf};
 ghost use Rattle.prefixes.specs.Fronts.{covers, names, has, Told, Stores, StoresWith, Serves};
@@ -28,7 +29,7 @@ impl KeyedRows {
         ensures { λ r. ⌜ made r (λ t. Told (keys-of t) (rows-of t) [] × Stores (keys-of t) []) ⌝ }
     {
         let set = IndexedSet::new(heap)?;
-        let mut rows = Vec::with_capacity(heap, 513)?;
+        let mut rows = Vec::with_capacity(heap, ROOM)?;
         rows.push_reserved(Row::zeros());
         Ok(KeyedRows { set, rows })
     }

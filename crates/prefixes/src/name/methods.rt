@@ -12,10 +12,9 @@ use fields::values::name::InterfaceName;
 use rows::Row;
 use std::alloc::AllocError;
 use std::alloc::Global;
-ghost use mathlib.Core.Path.{_≡_};
 ghost use Rattle.std.specs.Of.Vec.{vec-items};
-ghost use Rattle.fields.specs.NamePatterns.{name-passes};
 ghost use Rattle.fields.specs.Conditions.{plain-admits};
+ghost use Rattle.fields.specs.NamePatterns.{name-passes};
 ghost use Rattle.rows.specs.Shows.{Shows};
 
 pub impl Column for NameColumn as NameColumnColumn {

@@ -1,29 +1,30 @@
 // What a set of strings is asked, and its edits.
-ghost use Prim.Native.Nat.{ℕ, _≤_, _<_, _+_};
-ghost use mathlib.Core.Path.{_≡_};
-ghost use mathlib.Core.Bool.{true, false};
-ghost use mathlib.Core.List.{[], _∷_};
-ghost use lib.ListN.{length};
-ghost use Rattle.std.specs.Of.Vec.{vec-items};
-ghost use Rattle.std.specs.Vec.{made};
-ghost use Rattle.std.specs.Holes.{inserted, removed};
-ghost use Rattle.prefixes.specs.Spelled.{spelled};
-ghost use Rattle.prefixes.specs.Stored.{Longest, Fits, Parent, strings};
-ghost use Rattle.prefixes.specs.Held.{held};
-ghost use Rattle.prefixes.specs.Placed.{Placed};
 use super::PrefixSet;
+use super::ROOM;
 use crate::search;
 use crate::search::Place;
 use crate::symbols::Symbols;
 use std::alloc::AllocError;
 use std::alloc::Global;
+ghost use mathlib.Core.List.{[], _∷_};
+ghost use mathlib.Core.Path.{_≡_};
+ghost use Prim.Native.Nat.{_≤_, _<_};
+ghost use lib.ListN.{length};
+ghost use Rattle.std.specs.Holes.{inserted, removed};
+ghost use Rattle.std.specs.Of.Vec.{vec-items};
+ghost use Rattle.std.specs.Vec.{made};
+ghost use Rattle.prefixes.specs.Held.{held};
+ghost use Rattle.prefixes.specs.Placed.{Placed};
+ghost use Rattle.prefixes.specs.Spelled.{spelled};
+ghost use Rattle.prefixes.specs.Stored.{Longest, Fits, Parent, strings};
 
 impl PrefixSet {
+    // Only the empty string, with all the memory that the set will ever want.
     pub(crate) fn new(heap: Global) -> Result<PrefixSet, AllocError>
         ensures { λ r. ⌜ made r (λ s. held s ≡ [] ∷ []) ⌝ }
     {
-        let mut stored = Vec::with_capacity(heap, 513)?;
-        let mut links = Vec::with_capacity(heap, 513)?;
+        let mut stored = Vec::with_capacity(heap, ROOM)?;
+        let mut links = Vec::with_capacity(heap, ROOM)?;
         stored.push_reserved(Symbols::new());
         links.push_reserved(0);
         Ok(PrefixSet { stored, links })

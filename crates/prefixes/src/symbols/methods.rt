@@ -1,7 +1,7 @@
 // The making and reading of strings of symbols.
 use super::Symbols;
-ghost use mathlib.Core.Path.{_≡_};
 ghost use mathlib.Core.List.{[], _∷_, _++_};
+ghost use mathlib.Core.Path.{_≡_};
 ghost use Prim.Native.Nat.{_≤_, _<_};
 ghost use lib.ListN.{length};
 ghost use Rattle.prefixes.specs.Spelled.{spelled};
