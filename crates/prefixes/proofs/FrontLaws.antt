@@ -18,7 +18,7 @@ use Rattle.fields.specs.Strings.{begins, same}
 use Rattle.rows.specs.declared.row.Row.{Row}
 use Rattle.rows.specs.Shown.{shown}
 use Rattle.rows.specs.Shows.{Shows}
-use Rattle.prefixes.specs.Fronts.{covers, names, named, has, Told, Stores, StoresWith}
+use Rattle.prefixes.specs.Fronts.{Fronts, covers, names, named, has, Told, Stores, StoresWith}
 use Rattle.prefixes.specs.Stored.{at, Ascending, Parent, Longest, Fits}
 use Rattle.prefixes.specs.Strings.{ordered}
 use Rattle.columns.proofs.Pigeons.{pigeons}
@@ -96,7 +96,7 @@ one-front : (f : Option (List ℕ)) (s t : List ℕ) → names f s ≡ true → 
 one-front None s t a b = absurd (both-ways false refl a)
 one-front (Some p) s t a b = sym (same-path p s a) ∙ same-path p t b
 
-pub lean : (ss : List (List ℕ)) (fs : List (Option (List ℕ))) → Ascending ss → Stores ss fs → length ss ≤ length fs + 1
+pub lean : (ss : List (List ℕ)) (fs : Fronts) → Ascending ss → Stores ss fs → length ss ≤ length fs + 1
 lean ss fs a stores =
     let few = pigeons (length ss - 1) (length fs) (λ j i. names (getD fs i None) (at ss (j + 1)) ≡ true)
     (λ j l. some-where (λ f. names f (at ss (j + 1))) fs None
@@ -105,11 +105,11 @@ lean ss fs a stores =
     omega (arith, a .0)
 
 -- after one front less in the list, the string of that front is let go where no condition has it, and else is kept
-stores-without : (ss : List (List ℕ)) (f : Option (List ℕ)) (fs : List (Option (List ℕ))) → StoresWith ss f fs
+stores-without : (ss : List (List ℕ)) (f : Option (List ℕ)) (fs : Fronts) → StoresWith ss f fs
     → (s : List ℕ) → 0 < length s → names f s ≡ false → has ss s ≡ named fs s
 stores-without ss f fs stores s pos e = let a = stores s pos in cc
 
-pub stores-removed : (ss : List (List ℕ)) (j : ℕ) (fs : List (Option (List ℕ))) → Ascending ss → j < length ss → named fs (at ss j) ≡ false
+pub stores-removed : (ss : List (List ℕ)) (j : ℕ) (fs : Fronts) → Ascending ss → j < length ss → named fs (at ss j) ≡ false
     → StoresWith ss (Some (at ss j)) fs → Stores (removed ss j) fs
 stores-removed ss j fs a h free stores s pos = ⊎-elim
     (λ t. let e = same-path (at ss j) s t in
@@ -119,13 +119,13 @@ stores-removed ss j fs a h free stores s pos = ⊎-elim
     cc)
     (cases-bool (same (at ss j) s))
 
-pub stores-kept : (ss : List (List ℕ)) (p : List ℕ) (fs : List (Option (List ℕ))) → named fs p ≡ true → StoresWith ss (Some p) fs → Stores ss fs
+pub stores-kept : (ss : List (List ℕ)) (p : List ℕ) (fs : Fronts) → named fs p ≡ true → StoresWith ss (Some p) fs → Stores ss fs
 stores-kept ss p fs still stores s pos = ⊎-elim
     (λ t. let e = ap (named fs) (same-path p s t) in let a = stores s pos in cc)
     (λ t. stores-without ss (Some p) fs stores s pos t)
     (cases-bool (same p s))
 
-pub stores-vacant : (ss : List (List ℕ)) (p : List ℕ) (m : ℕ) (fs : List (Option (List ℕ))) → Fits ss p m → StoresWith ss (Some p) fs → Stores ss fs
+pub stores-vacant : (ss : List (List ℕ)) (p : List ℕ) (m : ℕ) (fs : Fronts) → Fits ss p m → StoresWith ss (Some p) fs → Stores ss fs
 stores-vacant ss p m fs fits stores s pos = ⊎-elim
     (λ t. let e = ap (has ss) (same-path p s t) in
     let a = stores s pos in
@@ -135,13 +135,13 @@ stores-vacant ss p m fs fits stores s pos = ⊎-elim
     (λ t. stores-without ss (Some p) fs stores s pos t)
     (cases-bool (same p s))
 
-pub stores-empty : (ss : List (List ℕ)) (p : List ℕ) (fs : List (Option (List ℕ))) → length p ≡ 0 → StoresWith ss (Some p) fs → Stores ss fs
+pub stores-empty : (ss : List (List ℕ)) (p : List ℕ) (fs : Fronts) → length p ≡ 0 → StoresWith ss (Some p) fs → Stores ss fs
 stores-empty ss p fs e stores s pos =
     stores-without ss (Some p) fs stores s pos
     (ap (λ b. b && begins p s) (ne-eqb (length p) (length s) (λ q. omega arith)))
 
 -- the longest stored front of a key is covered by the same conditions as the key
-stored-front : (ss : List (List ℕ)) (fs : List (Option (List ℕ))) → Stores ss fs → (i : ℕ) → i < length fs
+stored-front : (ss : List (List ℕ)) (fs : Fronts) → Stores ss fs → (i : ℕ) → i < length fs
     → (p : List ℕ) → getD fs i None ≡ Some p → 0 < length p → has ss p ≡ true
 stored-front ss fs stores i h p e pos = stores p pos ∙ some-at (λ f. names f p) fs i None h (ap (λ f. names f p) e ∙ same-refl p)
 
@@ -174,12 +174,12 @@ tests-agree t u d (x ∷ xs) e =
     cc
 
 -- what a row that was read shows
-row-at : (ss : List (List ℕ)) (rows : List Row) (fs : List (Option (List ℕ))) (r : ℕ) (row : Row) → r < length rows → row ≡ getD rows r row
+row-at : (ss : List (List ℕ)) (rows : List Row) (fs : Fronts) (r : ℕ) (row : Row) → r < length rows → row ≡ getD rows r row
     → Told ss rows fs → Shows row (λ f. covers f (at ss r)) fs
 row-at ss rows fs r row h is told =
     subst (λ (x : Row). Shows x (λ f. covers f (at ss r)) fs) (sym (is ∙ getD-default rows r row (record { words = [] }) h)) (told r h)
 
-pub row-longest : (ss : List (List ℕ)) (rows : List Row) (fs : List (Option (List ℕ))) (key : List ℕ) (r : ℕ) (row : Row) → length rows ≡ length ss
+pub row-longest : (ss : List (List ℕ)) (rows : List Row) (fs : Fronts) (key : List ℕ) (r : ℕ) (row : Row) → length rows ≡ length ss
     → Longest ss key r → row ≡ getD rows r row → Told ss rows fs → Stores ss fs → Shows row (λ f. covers f key) fs
 row-longest ss rows fs key r row level l is told stores i =
     row-at ss rows fs r row (omega (arith, l .within)) is told i
@@ -187,7 +187,7 @@ row-longest ss rows fs key r row level l is told stores i =
     (λ k h. covers-longest ss key r l (getD fs k None) (stored-front ss fs stores k h)))
 
 -- a row more and a row less
-told-inserted : (ss : List (List ℕ)) (rows : List Row) (fs : List (Option (List ℕ))) (m : ℕ) (p : List ℕ) (row : Row) → length rows ≡ length ss → m ≤ length ss
+told-inserted : (ss : List (List ℕ)) (rows : List Row) (fs : Fronts) (m : ℕ) (p : List ℕ) (row : Row) → length rows ≡ length ss → m ≤ length ss
     → Shows row (λ f. covers f p) fs → Told ss rows fs → Told (inserted ss m p) (inserted rows m row) fs
 told-inserted ss rows fs m p row level h new told k l =
     let n = length-inserted rows m row (omega arith) in
@@ -205,7 +205,7 @@ told-inserted ss rows fs m p row level h new told k l =
     both : {q s : List ℕ} {x y : Row} → q ≡ s → x ≡ y → Shows y (λ f. covers f s) fs → Shows x (λ f. covers f q) fs
     both {q} {s} {x} {y} d e w = subst (λ (t : List ℕ). Shows x (λ f. covers f t) fs) (sym d) (subst (λ (z : Row). Shows z (λ f. covers f s) fs) (sym e) w)
 
-told-removed : (ss : List (List ℕ)) (rows : List Row) (fs : List (Option (List ℕ))) (j : ℕ) → length rows ≡ length ss → j < length ss
+told-removed : (ss : List (List ℕ)) (rows : List Row) (fs : Fronts) (j : ℕ) → length rows ≡ length ss → j < length ss
     → Told ss rows fs → Told (removed ss j) (removed rows j) fs
 told-removed ss rows fs j level h told k l =
     let n = length-removed rows j (omega arith) in
@@ -220,13 +220,13 @@ told-removed ss rows fs j level h told k l =
 
 -- a string more with the row of its longest stored front, and a string less
 pub told-given : (ss ts : List (List ℕ)) (rows new : List Row) (m : ℕ) (p : List ℕ) (r : ℕ) (row : Row) → length rows ≡ length ss → m ≤ length ss → Longest ss p r
-    → row ≡ getD rows r row → ts ≡ inserted ss m p → new ≡ inserted rows m row → (fs : List (Option (List ℕ))) → Told ss rows fs → Stores ss fs → Told ts new fs
+    → row ≡ getD rows r row → ts ≡ inserted ss m p → new ≡ inserted rows m row → (fs : Fronts) → Told ss rows fs → Stores ss fs → Told ts new fs
 told-given ss ts rows new m p r row level h l is e d fs told stores =
     subst (λ (us : List (List ℕ)). Told us new fs) (sym e) (subst (λ (xs : List Row). Told (inserted ss m p) xs fs) (sym d)
     (told-inserted ss rows fs m p row level h (row-longest ss rows fs p r row level l is told stores) told))
 
 pub told-taken : (ss ts : List (List ℕ)) (rows new : List Row) (j : ℕ) → length rows ≡ length ss → j < length ss → ts ≡ removed ss j → new ≡ removed rows j
-    → (fs : List (Option (List ℕ))) → Told ss rows fs → Told ts new fs
+    → (fs : Fronts) → Told ss rows fs → Told ts new fs
 told-taken ss ts rows new j level h e d fs told =
     subst (λ (us : List (List ℕ)). Told us new fs) (sym e) (subst (λ (xs : List Row). Told (removed ss j) xs fs) (sym d) (told-removed ss rows fs j level h told))
 
@@ -264,7 +264,7 @@ names-covers ss j r a h parent (Some p) t =
     )
 
 -- so a string is the front of a listed condition exactly where its row has a one that its parent's row has not
-pub serves-any : (ss : List (List ℕ)) (rows : List Row) (fs : List (Option (List ℕ))) (j r : ℕ) (own above : Row) (left : ℕ → Bool) (b : Bool) → Ascending ss
+pub serves-any : (ss : List (List ℕ)) (rows : List Row) (fs : Fronts) (j r : ℕ) (own above : Row) (left : ℕ → Bool) (b : Bool) → Ascending ss
     → length rows ≡ length ss → j < length ss → Parent ss j r → own ≡ getD rows j own → above ≡ getD rows r above
     → ((i : ℕ) → left i ≡ (shown own i && not (shown above i))) → When b ((i : ℕ) × (left i ≡ true)) ((i : ℕ) → left i ≡ false)
     → Told ss rows fs → StoresWith ss (Some (at ss j)) fs → b ≡ named fs (at ss j)

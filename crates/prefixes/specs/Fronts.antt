@@ -12,6 +12,9 @@ use Rattle.rows.specs.Shows.{TableShows}
 use Rattle.columns.specs.Keys.{some}
 use Rattle.prefixes.specs.Stored.{at}
 
+abbrev pub Fronts : Type 0
+Fronts = List (Option (List ℕ))
+
 -- the condition holds on every value that begins with s
 abbrev pub covers : Option (List ℕ) → List ℕ → Bool
 covers None s = true
@@ -23,7 +26,7 @@ names None s = false
 names (Some p) s = same p s
 
 -- whether some condition has this very front
-abbrev pub named : List (Option (List ℕ)) → List ℕ → Bool
+abbrev pub named : Fronts → List ℕ → Bool
 named fs s = some (λ f. names f s) fs
 
 -- whether a string is stored
@@ -31,17 +34,13 @@ abbrev pub has : List (List ℕ) → List ℕ → Bool
 has ss s = some (λ q. same q s) ss
 
 -- each row shows the conditions that cover its string
-abbrev pub Told : List (List ℕ) → List Row → List (Option (List ℕ)) → Type 0
+abbrev pub Told : List (List ℕ) → List Row → Fronts → Type 0
 Told ss rows fs = TableShows rows (λ f k. covers f (at ss k)) fs
 
 -- but for the empty string, the fronts of the conditions are stored, and no others
-abbrev pub Stores : List (List ℕ) → List (Option (List ℕ)) → Type 0
+abbrev pub Stores : List (List ℕ) → Fronts → Type 0
 Stores ss fs = (s : List ℕ) → 0 < length s → has ss s ≡ named fs s
 
 -- the same with one front more than the list has
-abbrev pub StoresWith : List (List ℕ) → Option (List ℕ) → List (Option (List ℕ)) → Type 0
+abbrev pub StoresWith : List (List ℕ) → Option (List ℕ) → Fronts → Type 0
 StoresWith ss f fs = (s : List ℕ) → 0 < length s → has ss s ≡ (names f s || named fs s)
-
--- whether the string at i, with one front more than the list has stored, is the front of a listed condition
-abbrev pub Serves : List (List ℕ) → List Row → ℕ → Bool → Type 0
-Serves ss rows i r = (fs : List (Option (List ℕ))) → Told ss rows fs → StoresWith ss (Some (at ss i)) fs → r ≡ named fs (at ss i)

@@ -2,15 +2,14 @@
 use mathlib.Core.List.{List}
 use Prim.Native.Nat.{ℕ}
 use Rattle.std.specs.Of.Vec.{vec-items}
-use Rattle.prefixes.specs.Fronts.{Told, Stores}
-use Rattle.prefixes.specs.Keyed.{keys-of, rows-of}
+use Rattle.prefixes.specs.Keyed.{RowsTold, Keys}
 use Rattle.prefixes.specs.Listed.{fronts-of}
 use Rattle.prefixes.specs.declared.table.PrefixTable.{PrefixTable}
 
 -- each row shows the conditions that cover its string
 abbrev pub TableTold : {T : Type 0} → (T → List ℕ) → PrefixTable T → Type 0
-TableTold front t = Told (keys-of (t .keyed)) (rows-of (t .keyed)) (fronts-of front (vec-items (t .conditions)))
+TableTold front t = RowsTold (t .keyed) (fronts-of front (vec-items (t .conditions)))
 
 -- the strings are the fronts of the conditions, and the empty one
 abbrev pub TableStores : {T : Type 0} → (T → List ℕ) → PrefixTable T → Type 0
-TableStores front t = Stores (keys-of (t .keyed)) (fronts-of front (vec-items (t .conditions)))
+TableStores front t = Keys (t .keyed) (fronts-of front (vec-items (t .conditions)))

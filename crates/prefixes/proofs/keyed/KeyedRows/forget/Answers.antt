@@ -7,7 +7,7 @@ use Rattle.std.specs.Options.{mapped}
 use Rattle.std.specs.declared.option.Option.{Option}
 use Rattle.std.specs.declared.option.Option.the-variants.{Some}
 use Rattle.std.proofs.shelf.Edits.{length-removed}
-use Rattle.prefixes.specs.Fronts.{named, Stores, StoresWith}
+use Rattle.prefixes.specs.Fronts.{Fronts, named, Stores, StoresWith}
 use Rattle.prefixes.specs.Keyed.{keys-of, rows-of}
 use Rattle.prefixes.specs.Spelled.{spelled}
 use Rattle.prefixes.specs.Stored.{at}
@@ -17,7 +17,7 @@ use Rattle.prefixes.proofs.keyed.KeyedRows.forget.Needs as need
 use Rattle.prefixes.proofs.keyed.KeyedRows.forget.Needs.{else-at-gt0·by·then-at-gt0·else-not-serves, else-at-gt0·by·else-at-gt0}
 
 -- a front by another name
-renamed : (ss : List (List ℕ)) (f g : Option (List ℕ)) (fs : List (Option (List ℕ))) → f ≡ g → StoresWith ss f fs → StoresWith ss g fs
+renamed : (ss : List (List ℕ)) (f g : Option (List ℕ)) (fs : Fronts) → f ≡ g → StoresWith ss f fs → StoresWith ss g fs
 renamed ss f g fs e stores = subst (λ (x : Option (List ℕ)). StoresWith ss x fs) e stores
 
 pub ghost-self : need.ghost-self
