@@ -1,6 +1,6 @@
 pub mod Accepted
 mod Turned
-mod Tables
+pub mod Tables
 mod Coding
 pub mod Pigeons
 pub mod Some

@@ -1,0 +1,10 @@
+mod StringLaws
+mod StoredLaws
+mod EditLaws
+mod BitLaws
+mod RangeLaws
+mod StretchLaws
+mod IndexLaws
+mod FrontLaws
+mod ListedLaws
+mod SpellingLaws

@@ -1,0 +1,14 @@
+pub mod Strings
+pub mod Spelled
+pub mod Stored
+pub mod Held
+pub mod Bits
+pub mod Placed
+pub mod Ranges
+pub mod Indexed
+pub mod Numbered
+pub mod Fronts
+pub mod Keyed
+pub mod Listed
+pub mod Tables
+pub mod Spelling
