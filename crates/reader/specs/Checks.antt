@@ -31,25 +31,48 @@ payload-of bs = take (ip-total-length bs - header-length bs) (drop (header-lengt
 abbrev pub least-payload : ℕ → ℕ
 least-payload protocol = cond (eqb protocol 6) 20 (cond (eqb protocol 17 || eqb protocol 1) 8 0)
 
+-- there are fewer bytes than the shortest header has
+abbrev pub truncated : List ℕ → Bool
+truncated bs = ltb (length bs) 20
+
+abbrev pub other-version : List ℕ → Bool
+other-version bs = not (eqb (ip-version bs) 4)
+
+-- the header has fewer than five rows, or passes the end of the packet
+abbrev pub bad-header-length : List ℕ → Bool
+bad-header-length bs = ltb (ip-header-rows bs) 5 || ltb (length bs) (header-length bs)
+
+-- the packet is stated shorter than its header, or longer than it is
+abbrev pub bad-total-length : List ℕ → Bool
+bad-total-length bs = ltb (ip-total-length bs) (header-length bs) || ltb (length bs) (ip-total-length bs)
+
+-- the words of the header, the checksum among them, do not have all ones as their sum
+abbrev pub bad-checksum : List ℕ → Bool
+bad-checksum header = not (eqb (words-sum header) 65535)
+
+-- a packet that is no later fragment has less than the header of its protocol
+abbrev pub short-payload : List ℕ → List ℕ → Bool
+short-payload header payload = eqb (ip-fragment-offset header) 0 && ltb (length payload) (least-payload (ip-protocol header))
+
 -- what the first test that is true says
 abbrev pub first-of : List (Bool × Refusal) → Option Refusal
 first-of [] = None
 first-of (x ∷ xs) = cond (x .0) (Some (x .1)) (first-of xs)
 
--- the checks of the lengths
+-- checks 2 to 5, of the lengths
 unfoldable pub extent-fault : List ℕ → Option Refusal
 extent-fault bs = first-of (
-    (ltb (length bs) 20, refusal reason.Truncated (length bs))
-    ∷ (not (eqb (ip-version bs) 4), refusal reason.Version 0)
-    ∷ (ltb (ip-header-rows bs) 5 || ltb (length bs) (header-length bs), refusal reason.HeaderLength 0)
-    ∷ (ltb (ip-total-length bs) (header-length bs) || ltb (length bs) (ip-total-length bs), refusal reason.TotalLength 2)
+    (truncated bs, refusal reason.Truncated (length bs))
+    ∷ (other-version bs, refusal reason.Version 0)
+    ∷ (bad-header-length bs, refusal reason.HeaderLength 0)
+    ∷ (bad-total-length bs, refusal reason.TotalLength 2)
     ∷ [])
 
--- then those of a header and its payload
+-- checks 6 and 7, of a header and its payload
 unfoldable pub content-fault : List ℕ → List ℕ → Option Refusal
 content-fault header payload = first-of (
-    (not (eqb (words-sum header) 65535), refusal reason.Checksum 10)
-    ∷ (eqb (ip-fragment-offset header) 0 && ltb (length payload) (least-payload (ip-protocol header)), refusal reason.Payload (length header))
+    (bad-checksum header, refusal reason.Checksum 10)
+    ∷ (short-payload header payload, refusal reason.Payload (length header))
     ∷ [])
 
 -- the first fault of the two

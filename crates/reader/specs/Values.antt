@@ -14,11 +14,12 @@ use Rattle.reader.specs.declared.values.EchoKind.the-variants.{Request, Reply}
 use Rattle.reader.specs.declared.values.Fields.{Fields}
 use Rattle.reader.specs.Layouts.{ip-fragment-offset, ip-protocol, ip-source, ip-destination, source-port, destination-port, tcp-flags, icmp-type, icmp-identifier}
 
+abbrev pub ports-at : List ℕ → Ports
+ports-at payload = record { source = record { number = source-port payload }; destination = record { number = destination-port payload } }
+
 -- TCP and UDP have ports
 abbrev pub ports-of : ℕ → List ℕ → Option Ports
-ports-of protocol payload = cond (eqb protocol 6 || eqb protocol 17)
-    (Some (record { source = record { number = source-port payload }; destination = record { number = destination-port payload } }))
-    None
+ports-of protocol payload = cond (eqb protocol 6 || eqb protocol 17) (Some (ports-at payload)) None
 
 -- TCP has flags
 abbrev pub flags-of : ℕ → List ℕ → Option ℕ

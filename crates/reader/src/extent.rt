@@ -4,9 +4,13 @@ ghost use mathlib.Core.Path.{_≡_};
 ghost use Rattle.std.specs.declared.option.Option.the-variants.{Some};
 ghost use Rattle.reader.specs.Checks.{extent-fault};
 ghost use Rattle.reader.specs.Extents.{Extends};
+use crate::checks::has_bad_header_length;
+use crate::checks::has_bad_total_length;
+use crate::checks::has_other_version;
+use crate::checks::is_truncated;
 use crate::found::found;
-use crate::numbers::octet;
-use crate::numbers::word;
+use crate::header::header_length;
+use crate::header::total_length;
 use fields::refusal::Reason;
 use fields::refusal::Refusal;
 
@@ -21,20 +25,20 @@ pub(crate) struct Extent {
 pub(crate) fn measure(bytes: &[u8]) -> Result<Extent, Refusal>
     ensures result { λ r. ⌜ Cases r (λ e. Extends (now (bytes .entry)) e) (λ e. extent-fault (now (bytes .entry)) ≡ Some e) ⌝ }
 {
-    if bytes.len() < 20 {
+    if is_truncated(bytes) {
         return Err(found(Reason::Truncated, bytes.len()));
     }
-    let first = octet(bytes, 0);
-    if first / 16 != 4 {
+    if has_other_version(bytes) {
         return Err(found(Reason::Version, 0));
     }
-    let header = usize::from(first % 16) * 4;
-    if header < 20 || bytes.len() < header {
+    if has_bad_header_length(bytes) {
         return Err(found(Reason::HeaderLength, 0));
     }
-    let total = usize::from(word(bytes, 2));
-    if total < header || bytes.len() < total {
+    if has_bad_total_length(bytes) {
         return Err(found(Reason::TotalLength, 2));
     }
-    Ok(Extent { header, total })
+    Ok(Extent {
+        header: header_length(bytes),
+        total: total_length(bytes),
+    })
 }

@@ -1,46 +1,38 @@
 // Reading a packet: its checks, in their order, and then its parts and fields.
 ghost use mathlib.Core.Path.{_≡_};
+ghost use mathlib.Core.Bool.{false};
 ghost use Prim.Native.Nat.{_≤_};
 ghost use lib.ListN.{length};
-ghost use Rattle.reader.specs.Layouts.{ip-fragment-offset, ip-protocol};
-ghost use Rattle.reader.specs.Checks.{least-payload, content-fault};
+ghost use Rattle.reader.specs.Checks.{content-fault, short-payload};
 ghost use Rattle.reader.specs.Values.{FieldsOf};
 ghost use Rattle.reader.specs.Answers.{ReadAs};
-use crate::checksum::ones_sum;
+use crate::checks::has_bad_checksum;
+use crate::checks::has_short_payload;
 use crate::extent::measure;
 use crate::found::found;
-use crate::numbers::long;
-use crate::numbers::octet;
-use crate::numbers::word;
+use crate::header::destination;
+use crate::header::fragment_offset;
+use crate::header::protocol;
+use crate::header::source;
 use crate::packet::Packet;
 use crate::part::Part;
 use crate::transport::control;
 use crate::transport::echo;
-use crate::transport::least;
 use crate::transport::ports;
 use crate::values::Fields;
 use fields::refusal::Reason;
 use fields::refusal::Refusal;
-use fields::values::address::Address;
 use fields::values::protocol::Protocol;
-
-// Where the payload belongs in the whole datagram: the 13 bits behind the three fragment flags.
-fn fragment_offset(header: &[u8]) -> u16
-    requires { ⌜ 20 ≤ length (now header) ⌝ }
-    ensures result { λ r. ⌜ r ≡ ip-fragment-offset (now (header .entry)) ⌝ }
-{
-    word(header, 6) % 0x2000
-}
 
 // What is wrong with a header and its payload, if anything is.
 fn content_fault(header: &[u8], payload: &[u8]) -> Option<Refusal>
     requires { ⌜ 20 ≤ length (now header) ⌝ }
     ensures result { λ r. ⌜ r ≡ content-fault (now (header .entry)) (now (payload .entry)) ⌝ }
 {
-    if ones_sum(header) != 0xffff {
+    if has_bad_checksum(header) {
         return Some(found(Reason::Checksum, 10));
     }
-    if fragment_offset(header) == 0 && payload.len() < least(octet(header, 9)) {
+    if has_short_payload(header, payload) {
         return Some(found(Reason::Payload, header.len()));
     }
     None
@@ -49,16 +41,12 @@ fn content_fault(header: &[u8], payload: &[u8]) -> Option<Refusal>
 // The fields of a packet whose header and payload have these bytes.
 fn values(header: &[u8], payload: &[u8]) -> Fields
     requires header { ⌜ 20 ≤ length (now header) ⌝ }
-    requires payload { ⌜ (ip-fragment-offset (now header) ≡ 0 → least-payload (ip-protocol (now header)) ≤ length (now payload)) ⌝ }
+    requires payload { ⌜ short-payload (now header) (now payload) ≡ false ⌝ }
     ensures result { λ r. ⌜ FieldsOf (now (header .entry)) (now (payload .entry)) r ⌝ }
 {
-    let source = Address {
-        bits: long(header, 12),
-    };
-    let destination = Address {
-        bits: long(header, 16),
-    };
-    let number = octet(header, 9);
+    let source = source(header);
+    let destination = destination(header);
+    let number = protocol(header);
     let protocol = Protocol { number };
     let offset = fragment_offset(header);
     if offset != 0 {

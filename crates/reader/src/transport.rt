@@ -3,7 +3,7 @@ ghost use mathlib.Core.Path.{_≡_};
 ghost use Prim.Native.Nat.{_≤_};
 ghost use lib.ListN.{length};
 ghost use Rattle.reader.specs.Checks.{least-payload};
-ghost use Rattle.reader.specs.Values.{ports-of, flags-of, low-six, echo-kind, echo-of};
+ghost use Rattle.reader.specs.Values.{ports-at, ports-of, flags-of, low-six, echo-kind, echo-of};
 use crate::numbers::octet;
 use crate::numbers::word;
 use crate::values::Echo;
@@ -22,19 +22,27 @@ pub(crate) fn least(protocol: u8) -> usize
     }
 }
 
+// The ports, with which the headers of TCP and UDP begin alike.
+pub(crate) fn ports_at(payload: &[u8]) -> Ports
+    requires { ⌜ 4 ≤ length (now payload) ⌝ }
+    ensures result { λ r. ⌜ r ≡ ports-at (now (payload .entry)) ⌝ }
+{
+    Ports {
+        source: Port {
+            number: word(payload, 0),
+        },
+        destination: Port {
+            number: word(payload, 2),
+        },
+    }
+}
+
 pub(crate) fn ports(protocol: u8, payload: &[u8]) -> Option<Ports>
     requires { ⌜ least-payload protocol ≤ length (now payload) ⌝ }
     ensures result { λ r. ⌜ r ≡ ports-of protocol (now (payload .entry)) ⌝ }
 {
     match protocol {
-        6 | 17 => Some(Ports {
-            source: Port {
-                number: word(payload, 0),
-            },
-            destination: Port {
-                number: word(payload, 2),
-            },
-        }),
+        6 | 17 => Some(ports_at(payload)),
         _ => None,
     }
 }

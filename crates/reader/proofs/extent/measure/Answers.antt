@@ -2,45 +2,33 @@ use native.Mathlib.Omega.{arith}
 use borrow.Author.Needs.{needs}
 use Rattle.std.proofs.shelf.Ways.{tells}
 use Rattle.reader.specs.Checks.{extent-fault}
-use Rattle.reader.proofs.Bits.{bits-high, bits-low}
 use Rattle.reader.proofs.extent.measure.Needs as need
 
-pub returns-then-bytes-lt20 : need.returns-then-bytes-lt20
+pub returns-then-is-truncated : need.returns-then-is-truncated
 unfolding extent-fault
-returns-then-bytes-lt20 c = record { result = grind (arith, tells) }
+returns-then-is-truncated c = record { result = grind (arith, tells) }
 
-pub returns-then-first-ne4 : need.returns-then-first-ne4
+pub returns-then-has-other-version : need.returns-then-has-other-version
 unfolding extent-fault
-returns-then-first-ne4 c =
-    let version = bits-high 0 4 4 (c .args .bytes .now) in
-    record { result = grind (arith, tells) }
+returns-then-has-other-version c = record { result = grind (arith, tells) }
 
-pub returns-then-header-lt20 : need.returns-then-header-lt20
+pub returns-then-has-bad-header-length : need.returns-then-has-bad-header-length
 unfolding extent-fault
-returns-then-header-lt20 c =
-    let version = bits-high 0 4 4 (c .args .bytes .now) in
-    let rows = bits-low 0 4 4 (c .args .bytes .now) in
-    record { result = grind (arith, tells) }
+returns-then-has-bad-header-length c = record { result = grind (arith, tells) }
 
-pub returns-then-total-header : need.returns-then-total-header
+pub returns-then-has-bad-total-length : need.returns-then-has-bad-total-length
 unfolding extent-fault
-returns-then-total-header c =
-    let version = bits-high 0 4 4 (c .args .bytes .now) in
-    let rows = bits-low 0 4 4 (c .args .bytes .now) in
-    record { result = grind (arith, tells) }
+returns-then-has-bad-total-length c = record { result = grind (arith, tells) }
 
 pub returns : need.returns
 unfolding extent-fault
-returns c =
-    let version = bits-high 0 4 4 (c .args .bytes .now) in
-    let rows = bits-low 0 4 4 (c .args .bytes .now) in
-    record {
-      result = record {
-        passes = grind (arith, tells);
-        header = omega arith;
-        total = search needs;
-        least = search needs;
-        order = search needs;
-        within = search needs;
-      };
-    }
+returns c = record {
+  result = record {
+    passes = grind (arith, tells);
+    header = search needs;
+    total = search needs;
+    least = grind (arith, tells);
+    order = grind (arith, tells);
+    within = grind (arith, tells);
+  };
+}

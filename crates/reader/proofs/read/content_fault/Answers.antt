@@ -3,13 +3,13 @@ use Rattle.std.proofs.shelf.Ways.{tells}
 use Rattle.reader.specs.Checks.{content-fault}
 use Rattle.reader.proofs.read.content_fault.Needs as need
 
-pub returns-then-ones-sum-ne65535 : need.returns-then-ones-sum-ne65535
+pub returns-then-has-bad-checksum : need.returns-then-has-bad-checksum
 unfolding content-fault
-returns-then-ones-sum-ne65535 c = record { result = grind (arith, tells) }
+returns-then-has-bad-checksum c = record { result = grind (arith, tells) }
 
-pub returns-then-payload-least : need.returns-then-payload-least
+pub returns-then-has-short-payload : need.returns-then-has-short-payload
 unfolding content-fault
-returns-then-payload-least c = record { result = grind (arith, tells) }
+returns-then-has-short-payload c = record { result = grind (arith, tells) }
 
 pub returns : need.returns
 unfolding content-fault

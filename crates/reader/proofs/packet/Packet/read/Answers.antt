@@ -1,20 +1,18 @@
 use mathlib.Core.Path.{_≡_}
+use mathlib.Core.Bool.{false}
 use mathlib.Core.List.{List}
-use Prim.Native.Nat.{ℕ, _-_, _≤_}
-use native.Mathlib.Nat.{sub-zero}
+use Prim.Native.Nat.{ℕ}
 use native.Mathlib.Omega.{arith}
-use lib.ListN.{length, take, drop}
 use borrow.Author.Needs.{needs}
 use Rattle.std.proofs.shelf.Ways.{tells}
 use Rattle.std.specs.declared.option.Option.the-variants.{None}
-use Rattle.reader.specs.Layouts.{ip-fragment-offset, ip-protocol}
-use Rattle.reader.specs.Checks.{least-payload, content-fault}
+use Rattle.reader.specs.Checks.{content-fault, short-payload}
 use Rattle.reader.proofs.packet.Packet.read.Needs as need
 
 -- what passes the last check has enough payload to read
-enough : (header payload : List ℕ) → None ≡ content-fault header payload → ip-fragment-offset header ≡ 0 → least-payload (ip-protocol header) ≤ length payload
+enough : (header payload : List ℕ) → None ≡ content-fault header payload → short-payload header payload ≡ false
 unfolding content-fault
-enough header payload passes first = grind (arith, tells)
+enough header payload passes = grind (arith, tells)
 
 pub values-requires : need.values-requires
 values-requires c κs =
