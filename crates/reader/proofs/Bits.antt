@@ -23,7 +23,7 @@ regroup a p b d = rw (add-mul, mul-assoc, add-assoc)
 -- m bits and then n bits
 pub bits-join : (k m n : ℕ) (bs : List ℕ) → bits k (m + n) bs ≡ bits k m bs * 2 ^ n + bits (k + m) n bs
 unfolding bits
-bits-join k m zero bs = rw add-zero (omega arith)
+bits-join k m zero bs = rw (add-zero m) (omega arith)
 bits-join k m (suc n) bs =
     let h = bits-join k m n bs in
     let g = regroup (bits k m bs) (2 ^ n) (bits (k + m) n bs) (bit (k + m + n) bs) in

@@ -13,5 +13,6 @@ pub record Extends (bs : List ℕ) (e : Extent) : Type 0 where
   pub header : e .header ≡ header-length bs
   pub total : e .total ≡ ip-total-length bs
   pub least : 20 ≤ e .header
+  pub most : e .header ≤ 60
   pub order : e .header ≤ e .total
   pub within : e .total ≤ length bs

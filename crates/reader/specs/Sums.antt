@@ -4,9 +4,12 @@ use lib.ListN.{length}
 use mathlib.Core.List.{List}
 use Rattle.reader.specs.Drawings.{bits}
 
--- the sum of two words, the carry added back in
+-- a sum of words as 16 bits, the carry above them added back in
+abbrev pub carried : ℕ → ℕ
+carried sum = sum % 65536 + sum / 65536
+
 abbrev pub ones-add : ℕ → ℕ → ℕ
-ones-add a b = (a + b) % 65536 + (a + b) / 65536
+ones-add a b = carried (a + b)
 
 -- the sum of the first n words
 abbrev pub first-words-sum : ℕ → List ℕ → ℕ

@@ -43,6 +43,7 @@ pub(crate) fn has_bad_total_length(bytes: &[u8]) -> bool
 
 // With the checksum among them, the words of a sound header have all ones as their sum.
 pub(crate) fn has_bad_checksum(header: &[u8]) -> bool
+    requires { ⌜ length (now header) ≤ 60 ⌝ }
     ensures result { λ r. ⌜ r ≡ bad-checksum (now (header .entry)) ⌝ }
 {
     ones_sum(header) != 0xffff

@@ -20,6 +20,7 @@ pub(crate) fn version(header: &[u8]) -> u8
 pub(crate) fn header_length(header: &[u8]) -> usize
     requires { ⌜ 20 ≤ length (now header) ⌝ }
     ensures result { λ r. ⌜ r ≡ header-length (now (header .entry)) ⌝ }
+    ensures most { λ r. ⌜ r ≤ 60 ⌝ }
 {
     usize::from(octet(header, 0) % 16) * 4
 }

@@ -26,7 +26,8 @@ use fields::values::protocol::Protocol;
 
 // What is wrong with a header and its payload, if anything is.
 fn content_fault(header: &[u8], payload: &[u8]) -> Option<Refusal>
-    requires { ⌜ 20 ≤ length (now header) ⌝ }
+    requires least { ⌜ 20 ≤ length (now header) ⌝ }
+    requires most { ⌜ length (now header) ≤ 60 ⌝ }
     ensures result { λ r. ⌜ r ≡ content-fault (now (header .entry)) (now (payload .entry)) ⌝ }
 {
     if has_bad_checksum(header) {

@@ -28,6 +28,7 @@ returns c = record {
     header = search needs;
     total = search needs;
     least = grind (arith, tells);
+    most = search needs;
     order = grind (arith, tells);
     within = grind (arith, tells);
   };
