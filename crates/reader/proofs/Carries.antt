@@ -32,20 +32,20 @@ more-one s w l h =
 carried-more : (s w : ℕ) → s < 2 ^ 30 → w < 65536 → carried (carried (s + w)) ≡ ones-add (carried (carried s)) w
 carried-more s w hs hw = ⊎-elim
     (λ c. ⊎-elim
-      (λ l. ap carried (more-none s w c) ∙ ap (λ x. carried (x + w)) (sym (carries-none (carried s) l)))
-      (λ l. ap carried (more-none s w c) ∙ carries-one (carried s + w) (omega arith) (omega arith)
-        ∙ (let e : carried s + w - 65535 ≡ carried s - 65535 + w = omega arith in e)
-        ∙ sym (carries-none (carried s - 65535 + w) (omega arith))
-        ∙ ap (λ x. carried (x + w)) (sym (carries-one (carried s) l (omega arith))))
-      (cases-lt (carried s) 65536))
+    (λ l. ap carried (more-none s w c) ∙ ap (λ x. carried (x + w)) (sym (carries-none (carried s) l)))
+    (λ l. ap carried (more-none s w c) ∙ carries-one (carried s + w) (omega arith) (omega arith)
+    ∙ (let e : carried s + w - 65535 ≡ carried s - 65535 + w = omega arith in e)
+    ∙ sym (carries-none (carried s - 65535 + w) (omega arith))
+    ∙ ap (λ x. carried (x + w)) (sym (carries-one (carried s) l (omega arith))))
+    (cases-lt (carried s) 65536))
     (λ c. ⊎-elim
-      (λ l. ap carried (more-one s w hw c) ∙ carries-none (carried s + w - 65535) (omega arith)
-        ∙ sym (carries-one (carried s + w) (omega arith) (omega arith))
-        ∙ ap (λ x. carried (x + w)) (sym (carries-none (carried s) l)))
-      (λ l. ap carried (more-one s w hw c)
-        ∙ (let e : carried s + w - 65535 ≡ carried s - 65535 + w = omega arith in ap carried e)
-        ∙ ap (λ x. carried (x + w)) (sym (carries-one (carried s) l (omega arith))))
-      (cases-lt (carried s) 65536))
+    (λ l. ap carried (more-one s w hw c) ∙ carries-none (carried s + w - 65535) (omega arith)
+    ∙ sym (carries-one (carried s + w) (omega arith) (omega arith))
+    ∙ ap (λ x. carried (x + w)) (sym (carries-none (carried s) l)))
+    (λ l. ap carried (more-one s w hw c)
+    ∙ (let e : carried s + w - 65535 ≡ carried s - 65535 + w = omega arith in ap carried e)
+    ∙ ap (λ x. carried (x + w)) (sym (carries-one (carried s) l (omega arith))))
+    (cases-lt (carried s) 65536))
     (cases-lt (s % 65536 + w) 65536)
 
 pub one-more : (bs : List ℕ) (i s w t : ℕ) → s < 2 ^ 30 → w < 65536 → carried (carried s) ≡ first-words-sum i bs → w ≡ bits (8 * (2 * i)) 16 bs

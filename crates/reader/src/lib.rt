@@ -6,16 +6,11 @@ mod flags;
 mod found;
 mod header;
 mod numbers;
-mod packet;
-mod part;
+pub mod packet;
+pub mod part;
 mod read;
 mod transport;
-mod values;
+pub mod values;
 
+// A packet comes with the names of its interfaces, whose making is the first of the checks.
 pub use fields::values::name::InterfaceName;
-pub use packet::Packet;
-pub use part::Part;
-pub use values::Echo;
-pub use values::EchoKind;
-pub use values::Fields;
-pub use values::Ports;
