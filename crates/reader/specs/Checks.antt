@@ -59,27 +59,13 @@ abbrev pub first-of : List (Bool × Refusal) → Option Refusal
 first-of [] = None
 first-of (x ∷ xs) = cond (x .0) (Some (x .1)) (first-of xs)
 
--- checks 2 to 5, of the lengths
-unfoldable pub extent-fault : List ℕ → Option Refusal
-extent-fault bs = first-of (
+-- what is wrong with a packet, if anything is: checks 2 to 7, in their order
+unfoldable pub packet-fault : List ℕ → Option Refusal
+packet-fault bs = first-of (
     (truncated bs, refusal reason.Truncated (length bs))
     ∷ (other-version bs, refusal reason.Version 0)
     ∷ (bad-header-length bs, refusal reason.HeaderLength 0)
     ∷ (bad-total-length bs, refusal reason.TotalLength 2)
+    ∷ (bad-checksum (header-of bs), refusal reason.Checksum 10)
+    ∷ (short-payload (header-of bs) (payload-of bs), refusal reason.Payload (header-length bs))
     ∷ [])
-
--- checks 6 and 7, of a header and its payload
-unfoldable pub content-fault : List ℕ → List ℕ → Option Refusal
-content-fault header payload = first-of (
-    (bad-checksum header, refusal reason.Checksum 10)
-    ∷ (short-payload header payload, refusal reason.Payload (length header))
-    ∷ [])
-
--- the first fault of the two
-abbrev pub or-else : Option Refusal → Option Refusal → Option Refusal
-or-else None y = y
-or-else (Some x) y = Some x
-
--- what is wrong with a packet, if anything is
-abbrev pub packet-fault : List ℕ → Option Refusal
-packet-fault bs = or-else (extent-fault bs) (content-fault (header-of bs) (payload-of bs))

@@ -2,6 +2,6 @@ pub mod Drawings
 pub mod Layouts
 pub mod Sums
 pub mod Checks
-pub mod Extents
+pub mod Stages
 pub mod Values
 pub mod Answers

@@ -2,8 +2,7 @@
 ghost use Rattle.std.specs.Results.{Cases};
 ghost use mathlib.Core.Path.{_≡_};
 ghost use Rattle.std.specs.declared.option.Option.the-variants.{Some};
-ghost use Rattle.reader.specs.Checks.{extent-fault};
-ghost use Rattle.reader.specs.Extents.{Extends};
+ghost use Rattle.reader.specs.Stages.{extent-fault, Extends};
 use crate::checks::has_bad_header_length;
 use crate::checks::has_bad_total_length;
 use crate::checks::has_other_version;

@@ -3,7 +3,8 @@ ghost use mathlib.Core.Path.{_≡_};
 ghost use mathlib.Core.Bool.{false};
 ghost use Prim.Native.Nat.{_≤_};
 ghost use lib.ListN.{length};
-ghost use Rattle.reader.specs.Checks.{content-fault, short-payload};
+ghost use Rattle.reader.specs.Checks.{short-payload};
+ghost use Rattle.reader.specs.Stages.{content-fault};
 ghost use Rattle.reader.specs.Values.{FieldsOf};
 ghost use Rattle.reader.specs.Answers.{ReadAs};
 use crate::checks::has_bad_checksum;
@@ -28,7 +29,7 @@ use fields::values::protocol::Protocol;
 fn content_fault(header: &[u8], payload: &[u8]) -> Option<Refusal>
     requires least { ⌜ 20 ≤ length (now header) ⌝ }
     requires most { ⌜ length (now header) ≤ 60 ⌝ }
-    ensures result { λ r. ⌜ r ≡ content-fault (now (header .entry)) (now (payload .entry)) ⌝ }
+    ensures result { λ r. ⌜ r ≡ content-fault (now (header .entry)) (now (payload .entry)) (length (now (header .entry))) ⌝ }
 {
     if has_bad_checksum(header) {
         return Some(found(Reason::Checksum, 10));

@@ -1,7 +1,7 @@
 use native.Mathlib.Omega.{arith}
 use borrow.Author.Needs.{needs}
 use Rattle.std.proofs.shelf.Ways.{tells}
-use Rattle.reader.specs.Checks.{extent-fault}
+use Rattle.reader.specs.Stages.{extent-fault}
 use Rattle.reader.proofs.extent.measure.Needs as need
 
 pub returns-then-is-truncated : need.returns-then-is-truncated

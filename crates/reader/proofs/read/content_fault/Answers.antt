@@ -1,6 +1,6 @@
 use native.Mathlib.Omega.{arith}
 use Rattle.std.proofs.shelf.Ways.{tells}
-use Rattle.reader.specs.Checks.{content-fault}
+use Rattle.reader.specs.Stages.{content-fault}
 use Rattle.reader.proofs.read.content_fault.Needs as need
 
 pub returns-then-has-bad-checksum : need.returns-then-has-bad-checksum
