@@ -33,7 +33,7 @@ pub struct Fields {
     // whether the packet is a fragment behind the first, with no transport header of its own
     pub later: bool,
     pub ports: Option<Ports>,
-    // the byte of the TCP header that has the flags in its low six bits
+    // the byte of the TCP header that has the flags in its low six bits; `flags` makes their value of it
     pub(crate) control: Option<u8>,
     pub echo: Option<Echo>,
 }

@@ -1,4 +1,4 @@
-use mathlib.Core.Path.{_≡_, refl, sym, _∙_}
+use mathlib.Core.Path.{_≡_}
 use mathlib.Core.Bool.{false}
 use mathlib.Core.List.{List}
 use Prim.Native.Nat.{ℕ}
@@ -28,11 +28,20 @@ returns-in-Break-extent c =
 
 pub returns-in-Some : need.returns-in-Some
 returns-in-Some c =
-    let x = c .in-Continue-extent .ensures tt .result in
-    record { result = cut (c .args .bytes .now) (c .in-Continue-extent .extent) x ∙ sym (c .content-fault .ensures .result) ∙ c .in-Some .is }
+    let second = cut (c .args .bytes .now) (c .in-Continue-extent .extent) (c .in-Continue-extent .ensures tt .result) in
+    record { result = cc }
 
 pub returns-in-None : need.returns-in-None
 returns-in-None c =
     let x = c .in-Continue-extent .ensures tt .result in
-    let k = cut (c .args .bytes .now) (c .in-Continue-extent .extent) x ∙ sym (c .content-fault .ensures .result) ∙ c .in-None .is in
-    record { result = search needs }
+    let second = cut (c .args .bytes .now) (c .in-Continue-extent .extent) x in
+    record {
+      result = record {
+        passes = cc;
+        header = search needs;
+        header-place = search needs;
+        payload = search needs;
+        payload-place = search needs;
+        fields = search needs;
+      };
+    }
