@@ -1,0 +1,3 @@
+mod Bits
+mod Carries
+mod Order
