@@ -14,9 +14,9 @@ use Rattle.fields.specs.Names.{name-bytes}
 use Rattle.fields.specs.declared.condition.plain.Plain.{Plain}
 use Rattle.fields.specs.declared.condition.plain.Plain.the-variants.{Is}
 use Rattle.fields.specs.declared.condition.sided.Sided.{Sided}
-use Rattle.fields.specs.declared.tests.address.AddressPrefix.{AddressPrefix}
-use Rattle.fields.specs.declared.tests.name.NameBeginning.{NameBeginning}
-use Rattle.fields.specs.declared.tests.name.NamePattern.the-variants.{Beginning}
+use Rattle.fields.specs.declared.patterns.address.AddressPrefix.{AddressPrefix}
+use Rattle.fields.specs.declared.patterns.name.NameBeginning.{NameBeginning}
+use Rattle.fields.specs.declared.patterns.name.NamePattern.the-variants.{Beginning}
 use Rattle.fields.specs.declared.values.address.Address.{Address}
 use Rattle.fields.specs.declared.values.name.InterfaceName.{InterfaceName}
 use Rattle.fields.specs.declared.values.port.Port.{Port}

@@ -6,7 +6,7 @@ use lib.Dec.{eqb}
 use Rattle.std.specs.declared.option.Option.{Option}
 use Rattle.std.specs.declared.option.Option.the-variants.{Some, None}
 use Rattle.fields.specs.declared.values.address.Address.{Address}
-use Rattle.fields.specs.declared.tests.address.AddressPrefix.{AddressPrefix}
+use Rattle.fields.specs.declared.patterns.address.AddressPrefix.{AddressPrefix}
 
 -- the number that the first n of 32 bits spell
 abbrev pub first-bits : ℕ → ℕ → ℕ

@@ -7,11 +7,11 @@ use Rattle.fields.specs.NamePatterns.{name-passes}
 use Rattle.fields.specs.Passing.{protocol-passes, port-passes, flags-pass, label-passes}
 use Rattle.fields.specs.declared.condition.plain.Plain.{Plain}
 use Rattle.fields.specs.declared.condition.sided.Sided.{Sided}
-use Rattle.fields.specs.declared.tests.address.AddressPrefix.{AddressPrefix}
-use Rattle.fields.specs.declared.tests.flags.FlagsPattern.{FlagsPattern}
-use Rattle.fields.specs.declared.tests.label.LabelSet.{LabelSet}
-use Rattle.fields.specs.declared.tests.name.NamePattern.{NamePattern}
-use Rattle.fields.specs.declared.tests.protocol.ProtocolNumber.{ProtocolNumber}
+use Rattle.fields.specs.declared.patterns.address.AddressPrefix.{AddressPrefix}
+use Rattle.fields.specs.declared.patterns.flags.FlagsPattern.{FlagsPattern}
+use Rattle.fields.specs.declared.patterns.label.LabelSet.{LabelSet}
+use Rattle.fields.specs.declared.patterns.name.NamePattern.{NamePattern}
+use Rattle.fields.specs.declared.patterns.protocol.ProtocolNumber.{ProtocolNumber}
 use Rattle.fields.specs.declared.values.address.Address.{Address}
 use Rattle.fields.specs.declared.values.flags.Flags.{Flags}
 use Rattle.fields.specs.declared.values.label.Label.{Label}

@@ -24,11 +24,11 @@ use Rattle.fields.specs.declared.making.End.the-variants as end
 use Rattle.fields.specs.declared.refusal.Refusal.{Refusal}
 use Rattle.fields.specs.declared.refusal.Reason.the-variants as reason
 use Rattle.fields.specs.declared.refusal.Part.the-variants as part
-use Rattle.fields.specs.declared.tests.flags.FlagsPattern.{FlagsPattern}
-use Rattle.fields.specs.declared.tests.label.LabelSet.{LabelSet}
-use Rattle.fields.specs.declared.tests.name.NamePattern.{NamePattern}
-use Rattle.fields.specs.declared.tests.name.NamePattern.the-variants.{Whole, Beginning}
-use Rattle.fields.specs.declared.tests.protocol.ProtocolNumber.{ProtocolNumber}
+use Rattle.fields.specs.declared.patterns.flags.FlagsPattern.{FlagsPattern}
+use Rattle.fields.specs.declared.patterns.label.LabelSet.{LabelSet}
+use Rattle.fields.specs.declared.patterns.name.NamePattern.{NamePattern}
+use Rattle.fields.specs.declared.patterns.name.NamePattern.the-variants.{Whole, Beginning}
+use Rattle.fields.specs.declared.patterns.protocol.ProtocolNumber.{ProtocolNumber}
 
 -- the field of an end's address
 abbrev pub end-field : End → Field

@@ -5,9 +5,9 @@ use Prim.Native.Nat.{ℕ}
 use Rattle.fields.specs.Names.{text-bytes, name-bytes}
 use Rattle.fields.specs.Strings.{begins, same}
 use Rattle.fields.specs.declared.values.name.InterfaceName.{InterfaceName}
-use Rattle.fields.specs.declared.tests.name.NameBeginning.{NameBeginning}
-use Rattle.fields.specs.declared.tests.name.NamePattern.{NamePattern}
-use Rattle.fields.specs.declared.tests.name.NamePattern.the-variants.{Whole, Beginning}
+use Rattle.fields.specs.declared.patterns.name.NameBeginning.{NameBeginning}
+use Rattle.fields.specs.declared.patterns.name.NamePattern.{NamePattern}
+use Rattle.fields.specs.declared.patterns.name.NamePattern.the-variants.{Whole, Beginning}
 
 abbrev pub beginning-bytes : NameBeginning → List ℕ
 beginning-bytes b = text-bytes (b .text)

@@ -3,9 +3,9 @@ use mathlib.Core.Bool.{Bool, not}
 use lib.Bits.{bitAnd}
 use lib.Dec.{eqb}
 use Rattle.fields.specs.Labels.{label-value}
-use Rattle.fields.specs.declared.tests.flags.FlagsPattern.{FlagsPattern}
-use Rattle.fields.specs.declared.tests.label.LabelSet.{LabelSet}
-use Rattle.fields.specs.declared.tests.protocol.ProtocolNumber.{ProtocolNumber}
+use Rattle.fields.specs.declared.patterns.flags.FlagsPattern.{FlagsPattern}
+use Rattle.fields.specs.declared.patterns.label.LabelSet.{LabelSet}
+use Rattle.fields.specs.declared.patterns.protocol.ProtocolNumber.{ProtocolNumber}
 use Rattle.fields.specs.declared.values.flags.Flags.{Flags}
 use Rattle.fields.specs.declared.values.label.Label.{Label}
 use Rattle.fields.specs.declared.values.port.Port.{Port}

@@ -7,7 +7,7 @@ ghost use Rattle.std.specs.declared.option.Option.the-variants.{None};
 pub mod plain;
 pub mod sided;
 
-// A test of one field's values.
+// What is asked of one field's values.
 pub trait Test: Copy {
     type Value: Copy;
 

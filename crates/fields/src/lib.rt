@@ -2,6 +2,6 @@
 pub mod condition;
 pub mod field;
 pub mod making;
+pub mod patterns;
 pub mod refusal;
-pub mod tests;
 pub mod values;

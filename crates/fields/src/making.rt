@@ -7,18 +7,18 @@ use crate::field::Field;
 use crate::refusal::Part;
 use crate::refusal::Reason;
 use crate::refusal::Refusal;
-use crate::tests::address::AddressPrefix;
-use crate::tests::address::methods::AddressPrefixTest;
-use crate::tests::flags::FlagsPattern;
-use crate::tests::label::LabelSet;
-use crate::tests::name::NameBeginning;
-use crate::tests::name::NamePattern;
-use crate::tests::name::methods::NamePatternTest;
-use crate::tests::passing::FlagsPatternTest;
-use crate::tests::passing::LabelSetTest;
-use crate::tests::passing::PortTest;
-use crate::tests::passing::ProtocolNumberTest;
-use crate::tests::protocol::ProtocolNumber;
+use crate::patterns::address::AddressPrefix;
+use crate::patterns::address::methods::AddressPrefixTest;
+use crate::patterns::flags::FlagsPattern;
+use crate::patterns::label::LabelSet;
+use crate::patterns::name::NameBeginning;
+use crate::patterns::name::NamePattern;
+use crate::patterns::name::methods::NamePatternTest;
+use crate::patterns::passing::FlagsPatternTest;
+use crate::patterns::passing::LabelSetTest;
+use crate::patterns::passing::PortTest;
+use crate::patterns::passing::ProtocolNumberTest;
+use crate::patterns::protocol::ProtocolNumber;
 use crate::values::name::InterfaceName;
 use crate::values::port::Port;
 ghost use mathlib.Core.Path.{_≡_};
@@ -115,12 +115,12 @@ pub fn name_beginning(bytes: &[u8], sense: Sense) -> Result<NameCondition, Refus
     }
 }
 
-// The condition that states a lawful test, or the refusal where there is none.
-fn made<T: Test>(test: Option<T>, sense: Sense, field: Field) -> Result<Sided<Plain<T>>, Refusal>
-    ensures result { λ r. ⌜ r ≡ answer test sense field ⌝ }
+// The condition that states a lawful pattern, or the refusal where there is none.
+fn made<T: Test>(pattern: Option<T>, sense: Sense, field: Field) -> Result<Sided<Plain<T>>, Refusal>
+    ensures result { λ r. ⌜ r ≡ answer pattern sense field ⌝ }
 {
-    match test {
-        Some(test) => Ok(Sided::stated(test, sense)),
+    match pattern {
+        Some(lawful) => Ok(Sided::stated(lawful, sense)),
         None => Err(Refusal {
             reason: Reason::Condition,
             part: Part::Columns,

@@ -12,7 +12,7 @@ use fields::making;
 use fields::making::AddressCondition;
 use fields::making::End;
 use fields::refusal::Refusal;
-use fields::tests::address::methods::AddressPrefixTest;
+use fields::patterns::address::methods::AddressPrefixTest;
 use fields::values::address::Address;
 use std::fmt;
 
@@ -57,8 +57,8 @@ pub impl Notation for AddressCondition as AddressNotation {
         if text == "any" {
             return Ok(Sided::plain(Plain::Any));
         }
-        let (sense, test) = split_sense(text);
-        match prefix(test) {
+        let (sense, wanted) = split_sense(text);
+        match prefix(wanted) {
             Some((address, length)) => making::address(end_of(field), address.bits, length, sense),
             None => Err(unlawful(field)),
         }

@@ -1,4 +1,4 @@
-// What a condition's text is: `any`, or a test, which `!` before it inverts.
+// What a condition's text is: `any`, or a pattern, which `!` before it inverts.
 use fields::condition::sided::Sense;
 use fields::field::Field;
 use fields::refusal::Part;
@@ -34,7 +34,7 @@ pub(crate) fn unlawful(field: Field) -> Refusal {
 // What stands behind the `!`, if there is one.
 pub(crate) fn split_sense(text: &str) -> (Sense, &str) {
     match text.strip_prefix('!') {
-        Some(test) => (Sense::Inverted, test),
+        Some(wanted) => (Sense::Inverted, wanted),
         None => (Sense::Plain, text),
     }
 }

@@ -10,7 +10,7 @@ use fields::field::Field;
 use fields::making;
 use fields::making::FlagsCondition;
 use fields::refusal::Refusal;
-use fields::tests::passing::FlagsPatternTest;
+use fields::patterns::passing::FlagsPatternTest;
 use std::fmt;
 
 const NAMES: [&str; 6] = ["FIN", "SYN", "RST", "PSH", "ACK", "URG"];
@@ -67,8 +67,8 @@ pub impl Notation for FlagsCondition as FlagsNotation {
         if text == "any" {
             return Ok(Sided::plain(Plain::Any));
         }
-        let (sense, test) = split_sense(text);
-        match pattern(test) {
+        let (sense, wanted) = split_sense(text);
+        match pattern(wanted) {
             Some((mask, wanted)) => making::flags(mask, wanted, sense),
             None => Err(unlawful(field)),
         }

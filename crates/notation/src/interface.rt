@@ -10,8 +10,8 @@ use fields::field::Field;
 use fields::making;
 use fields::making::NameCondition;
 use fields::refusal::Refusal;
-use fields::tests::name::NamePattern;
-use fields::tests::name::methods::NamePatternTest;
+use fields::patterns::name::NamePattern;
+use fields::patterns::name::methods::NamePatternTest;
 use std::fmt;
 
 // The name behind the `/`, if there is one.
@@ -48,8 +48,8 @@ pub impl Notation for NameCondition as NameNotation {
         if text == "any" {
             return Ok(Sided::plain(Plain::Any));
         }
-        let (sense, test) = split_sense(text);
-        let name = bare(test);
+        let (sense, wanted) = split_sense(text);
+        let name = bare(wanted);
         match name.strip_suffix('+') {
             Some(beginning) => making::name_beginning(beginning.as_bytes(), sense),
             None => making::whole_name(name.as_bytes(), sense),

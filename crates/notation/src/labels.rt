@@ -10,7 +10,7 @@ use fields::field::Field;
 use fields::making;
 use fields::making::LabelCondition;
 use fields::refusal::Refusal;
-use fields::tests::passing::LabelSetTest;
+use fields::patterns::passing::LabelSetTest;
 use fields::values::label::Label;
 use std::fmt;
 
@@ -46,8 +46,8 @@ pub impl Notation for LabelCondition as LabelNotation {
         if text == "any" {
             return Ok(Sided::plain(Plain::Any));
         }
-        let (sense, test) = split_sense(text);
-        match set(test) {
+        let (sense, wanted) = split_sense(text);
+        match set(wanted) {
             Some(members) => making::labels(members, sense),
             None => Err(unlawful(field)),
         }

@@ -11,7 +11,7 @@ use fields::field::Field;
 use fields::making;
 use fields::making::PortCondition;
 use fields::refusal::Refusal;
-use fields::tests::passing::PortTest;
+use fields::patterns::passing::PortTest;
 use std::fmt;
 
 pub(crate) fn number(text: &str) -> Option<u16> {
@@ -23,8 +23,8 @@ pub impl Notation for PortCondition as PortNotation {
         if text == "any" {
             return Ok(Sided::plain(Plain::Any));
         }
-        let (sense, test) = split_sense(text);
-        match number(test) {
+        let (sense, wanted) = split_sense(text);
+        match number(wanted) {
             Some(port) => Ok(making::port(port, sense)),
             None => Err(unlawful(field)),
         }

@@ -11,7 +11,7 @@ use fields::field::Field;
 use fields::making;
 use fields::making::ProtocolCondition;
 use fields::refusal::Refusal;
-use fields::tests::passing::ProtocolNumberTest;
+use fields::patterns::passing::ProtocolNumberTest;
 use std::fmt;
 
 pub(crate) fn number(text: &str) -> Option<u8> {
@@ -37,8 +37,8 @@ pub impl Notation for ProtocolCondition as ProtocolNotation {
         if text == "any" {
             return Ok(Sided::plain(Plain::Any));
         }
-        let (sense, test) = split_sense(text);
-        match number(test) {
+        let (sense, wanted) = split_sense(text);
+        match number(wanted) {
             Some(protocol) => making::protocol(protocol, sense),
             None => Err(unlawful(field)),
         }

@@ -22,12 +22,12 @@ use fields::making::NameCondition;
 use fields::making::PortCondition;
 use fields::making::ProtocolCondition;
 use fields::refusal::Refusal;
-use fields::tests::address::methods::AddressPrefixTest;
-use fields::tests::name::methods::NamePatternTest;
-use fields::tests::passing::FlagsPatternTest;
-use fields::tests::passing::LabelSetTest;
-use fields::tests::passing::PortTest;
-use fields::tests::passing::ProtocolNumberTest;
+use fields::patterns::address::methods::AddressPrefixTest;
+use fields::patterns::name::methods::NamePatternTest;
+use fields::patterns::passing::FlagsPatternTest;
+use fields::patterns::passing::LabelSetTest;
+use fields::patterns::passing::PortTest;
+use fields::patterns::passing::ProtocolNumberTest;
 use std::fmt;
 use std::str::FromStr;
 

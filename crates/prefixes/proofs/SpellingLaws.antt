@@ -17,9 +17,9 @@ use Rattle.fields.specs.NameBytes.{name-byte}
 use Rattle.fields.specs.NamePatterns.{name-passes}
 use Rattle.fields.specs.Names.{text-bytes, name-bytes}
 use Rattle.fields.specs.Strings.{begins, same}
-use Rattle.fields.specs.declared.tests.address.AddressPrefix.{AddressPrefix}
-use Rattle.fields.specs.declared.tests.name.NamePattern.{NamePattern}
-use Rattle.fields.specs.declared.tests.name.NamePattern.the-variants.{Whole, Beginning}
+use Rattle.fields.specs.declared.patterns.address.AddressPrefix.{AddressPrefix}
+use Rattle.fields.specs.declared.patterns.name.NamePattern.{NamePattern}
+use Rattle.fields.specs.declared.patterns.name.NamePattern.the-variants.{Whole, Beginning}
 use Rattle.fields.specs.declared.values.address.Address.{Address}
 use Rattle.fields.specs.declared.values.name.InterfaceName.{InterfaceName}
 use Rattle.fields.specs.declared.values.name.NameText.{NameText}

@@ -6,9 +6,9 @@ use lib.Dec.{ltb}
 use lib.ListN.{take}
 use Rattle.fields.specs.NamePatterns.{beginning-bytes}
 use Rattle.fields.specs.Names.{name-bytes}
-use Rattle.fields.specs.declared.tests.address.AddressPrefix.{AddressPrefix}
-use Rattle.fields.specs.declared.tests.name.NamePattern.{NamePattern}
-use Rattle.fields.specs.declared.tests.name.NamePattern.the-variants.{Whole, Beginning}
+use Rattle.fields.specs.declared.patterns.address.AddressPrefix.{AddressPrefix}
+use Rattle.fields.specs.declared.patterns.name.NamePattern.{NamePattern}
+use Rattle.fields.specs.declared.patterns.name.NamePattern.the-variants.{Whole, Beginning}
 use Rattle.fields.specs.declared.values.address.Address.{Address}
 use Rattle.fields.specs.declared.values.name.InterfaceName.{InterfaceName}
 use Rattle.prefixes.specs.Bits.{bitsOf}

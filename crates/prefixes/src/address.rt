@@ -1,6 +1,6 @@
 // The column of address prefixes.
 use crate::table::PrefixTable;
-use fields::tests::address::AddressPrefix;
+use fields::patterns::address::AddressPrefix;
 ghost use Rattle.prefixes.specs.Spelling.{address-front};
 ghost use Rattle.prefixes.specs.Tables.{TableTold, TableStores};
 

@@ -1,6 +1,6 @@
 // The column of interface names and how they begin.
 use crate::table::PrefixTable;
-use fields::tests::name::NamePattern;
+use fields::patterns::name::NamePattern;
 ghost use Rattle.prefixes.specs.Spelling.{name-front};
 ghost use Rattle.prefixes.specs.Tables.{TableTold, TableStores};
 

@@ -1,4 +1,4 @@
-// What a test has to offer to be listed by a column of prefixes.
+// What a pattern has to offer to be listed by a column of prefixes.
 use crate::symbols::Symbols;
 use fields::condition::Test;
 ghost use mathlib.Core.List.{List};
@@ -11,7 +11,7 @@ ghost use Rattle.prefixes.specs.Spelled.{spelled};
 pub(crate) mod address;
 pub(crate) mod name;
 
-// A test that asks how a value begins. Values and tests are spelled as strings, and a value passes where the test's string is its front.
+// A pattern that asks how a value begins. Values and patterns are spelled as strings, and a value passes where the pattern's string is its front.
 pub(crate) trait Prefix: Test {
     ghost front: { Self → List ℕ };
 

@@ -11,7 +11,7 @@ ghost use Rattle.prefixes.specs.Bits.{bitsOf};
 ghost use Rattle.prefixes.specs.Ranges.{low as lowOf, past as pastOf, Padded, Stretched};
 ghost use Rattle.prefixes.specs.Stored.{strings, at as stringAt, Ascending, Covers, LinkedTo, Longest};
 
-// A power of two, or nothing: a shift of the test itself, which compiles to no branch.
+// A power of two, or nothing: a shift of the comparison itself, which compiles to no branch.
 fn step(forward: bool, shift: u32) -> usize
     requires { ⌜ shift < 64 ⌝ }
     ensures { λ r. ⌜ r ≡ cond forward (2 ^ shift) 0 ⌝ }

@@ -10,7 +10,7 @@ ghost use Rattle.rows.specs.Shows.{Shows};
 mod methods;
 
 // A list of conditions, the rows of their fronts, and the row of those that hold on an absent field.
-// That the rows are right depends on the tests, so it is asked and promised by the calls.
+// That the rows are right depends on the patterns, so it is asked and promised by the calls.
 #[derive(Drop)]
 pub(crate) struct PrefixTable<T: Copy> {
     conditions: Vec<Plain<T>>,

@@ -1,4 +1,4 @@
-// The checks that a packet must pass, each one a test that is true where it fails.
+// The checks that a packet must pass, each one a question that is true where it fails.
 ghost use mathlib.Core.Path.{_≡_};
 ghost use Prim.Native.Nat.{_≤_};
 ghost use lib.ListN.{length};
@@ -11,7 +11,7 @@ use crate::header::total_length;
 use crate::header::version;
 use crate::transport::least;
 
-// There are fewer bytes than the shortest header has.
+// There are fewer bytes than the least header has.
 pub(crate) fn is_truncated(bytes: &[u8]) -> bool
     ensures result { λ r. ⌜ r ≡ truncated (now (bytes .entry)) ⌝ }
 {
@@ -25,7 +25,7 @@ pub(crate) fn has_other_version(bytes: &[u8]) -> bool
     version(bytes) != 4
 }
 
-// The header is stated shorter than the shortest, or longer than what there is.
+// The header is stated shorter than the least, or longer than what there is.
 pub(crate) fn has_bad_header_length(bytes: &[u8]) -> bool
     requires { ⌜ 20 ≤ length (now bytes) ⌝ }
     ensures result { λ r. ⌜ r ≡ bad-header-length (now (bytes .entry)) ⌝ }

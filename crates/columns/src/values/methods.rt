@@ -10,7 +10,7 @@ use fields::condition::Condition;
 use fields::condition::plain::Plain;
 use fields::condition::plain::PlainCondition;
 use fields::refusal::Refusal;
-use fields::tests::passing::PortTest;
+use fields::patterns::passing::PortTest;
 use fields::values::port::Port;
 use rows::Row;
 use std::alloc::AllocError;

@@ -4,7 +4,7 @@ use crate::condition::Test;
 ghost use mathlib.Core.Path.{_≡_};
 ghost use Rattle.fields.specs.Conditions.{plain-admits, plain-any};
 
-// "Any", or a test of the value. On an absent field no test holds.
+// "Any", or a pattern of values. On an absent field no pattern holds.
 #[derive(Clone, Copy)]
 pub enum Plain<T> {
     Any,
@@ -31,7 +31,7 @@ pub impl<T: Test> Condition for Plain<T> as PlainCondition {
         match (self, value) {
             (Plain::Any, _) => true,
             (Plain::Is(_), None) => false,
-            (Plain::Is(test), Some(present)) => test.passes_on(present),
+            (Plain::Is(pattern), Some(present)) => pattern.passes_on(present),
         }
     }
 }

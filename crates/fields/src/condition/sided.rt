@@ -58,16 +58,16 @@ impl<K: Condition> Sided<K> {
 }
 
 impl<T: Test> Sided<Plain<T>> {
-    // The condition that states a test. It is never an inverted "any".
-    pub(crate) fn stated(test: T, sense: Sense) -> Self
-        ensures result { λ r. ⌜ r ≡ theStated test sense ⌝ }
+    // The condition that states a pattern. It is never an inverted "any".
+    pub(crate) fn stated(pattern: T, sense: Sense) -> Self
+        ensures result { λ r. ⌜ r ≡ theStated pattern sense ⌝ }
     {
         let inverted = match sense {
             Sense::Plain => false,
             Sense::Inverted => true,
         };
         Sided {
-            condition: Plain::Is(test),
+            condition: Plain::Is(pattern),
             inverted,
         }
     }

@@ -2,8 +2,8 @@
 use super::Prefix;
 use crate::symbols::Symbols;
 use fields::condition::Test;
-use fields::tests::name::NamePattern;
-use fields::tests::name::methods::NamePatternTest;
+use fields::patterns::name::NamePattern;
+use fields::patterns::name::methods::NamePatternTest;
 use fields::values::name::InterfaceName;
 ghost use Rattle.prefixes.specs.Spelling.{name-front, name-spelling};
 

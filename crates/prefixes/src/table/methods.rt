@@ -35,7 +35,7 @@ fn front_of<T: Prefix>(condition: &Plain<T>) -> Option<Symbols>
 {
     match condition {
         Plain::Any => None,
-        Plain::Is(test) => Some(test.front_symbols()),
+        Plain::Is(pattern) => Some(pattern.front_symbols()),
     }
 }
 

@@ -7,7 +7,7 @@ use fields::condition::plain::PlainCondition;
 use fields::condition::sided::SidedCondition;
 use fields::making::FlagsCondition;
 use fields::refusal::Refusal;
-use fields::tests::passing::FlagsPatternTest;
+use fields::patterns::passing::FlagsPatternTest;
 use fields::values::flags::Flags;
 use rows::Row;
 use std::alloc::AllocError;

@@ -7,7 +7,7 @@ use fields::condition::plain::PlainCondition;
 use fields::condition::sided::SidedCondition;
 use fields::making::LabelCondition;
 use fields::refusal::Refusal;
-use fields::tests::passing::LabelSetTest;
+use fields::patterns::passing::LabelSetTest;
 use fields::values::label::Label;
 use rows::Row;
 use std::alloc::AllocError;

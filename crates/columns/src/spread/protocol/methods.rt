@@ -7,7 +7,7 @@ use fields::condition::plain::PlainCondition;
 use fields::condition::sided::SidedCondition;
 use fields::making::ProtocolCondition;
 use fields::refusal::Refusal;
-use fields::tests::passing::ProtocolNumberTest;
+use fields::patterns::passing::ProtocolNumberTest;
 use fields::values::protocol::Protocol;
 use rows::Row;
 use std::alloc::AllocError;

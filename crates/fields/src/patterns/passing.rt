@@ -1,8 +1,8 @@
-// Which values pass the tests of protocols, ports, flags and labels.
+// Which values pass the patterns of protocols, ports, flags and labels.
 use crate::condition::Test;
-use crate::tests::flags::FlagsPattern;
-use crate::tests::label::LabelSet;
-use crate::tests::protocol::ProtocolNumber;
+use crate::patterns::flags::FlagsPattern;
+use crate::patterns::label::LabelSet;
+use crate::patterns::protocol::ProtocolNumber;
 use crate::values::flags::Flags;
 use crate::values::label::Label;
 use crate::values::port::Port;
@@ -20,7 +20,7 @@ pub impl Test for ProtocolNumber as ProtocolNumberTest {
     }
 }
 
-// Every port is lawful, so a port is its own test.
+// Every port is lawful, so a port is its own pattern.
 pub impl Test for Port as PortTest {
     type Value = Port;
 

@@ -3,7 +3,7 @@ use mathlib.Core.Bool.{true, false}
 use native.Mathlib.Omega.{arith}
 use Rattle.std.proofs.shelf.Tests.{eq-eqb, ne-eqb}
 use Rattle.fields.proofs.Begun.{begins-more, begins-all, longer-begins}
-use Rattle.fields.proofs.tests.name.methods.begins_with.Needs as need
+use Rattle.fields.proofs.patterns.name.methods.begins_with.Needs as need
 
 pub returns-then-front-whole : need.returns-then-front-whole
 returns-then-front-whole c = record { result = sym (longer-begins (c .args .front .now) (c .args .whole .now) (omega arith)) }

@@ -1,4 +1,4 @@
-// The making of name patterns, and the test.
+// The making of name patterns, and which names pass them.
 use super::NameBeginning;
 use super::NamePattern;
 use crate::condition::Test;

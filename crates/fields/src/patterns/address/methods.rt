@@ -1,4 +1,4 @@
-// The making of address prefixes, and the test.
+// The making of address prefixes, and which addresses pass them.
 use super::AddressPrefix;
 use crate::condition::Test;
 use crate::values::address::Address;

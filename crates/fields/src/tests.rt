@@ -1,7 +1,0 @@
-// The tests of values that conditions are made of, one kind a field. None exists that is unlawful.
-pub mod address;
-pub mod flags;
-pub mod label;
-pub mod name;
-pub mod passing;
-pub mod protocol;
