@@ -4,10 +4,12 @@ use mathlib.Core.Bool.{Bool, true, false, cond, not, _&&_}
 use mathlib.Core.List.{List, [], _∷_, _++_}
 use Prim.Native.Nat.{ℕ, zero, suc, _+_, _-_, _<_, _≤_}
 use native.Mathlib.Omega.{arith}
+use lib.Dec.{ltb}
 use lib.ListN.{length, getD, set, take, length-set}
 use lib.Seq.{length-take-le, getD-take, getD-set-other}
 use borrow.Author.Tests.{lt-ltb, le-ltb}
 use Rattle.std.specs.Holes.{swapped}
+use Rattle.std.specs.Orderings.{When}
 use Rattle.std.proofs.shelf.Lists.{getD-default}
 use Rattle.std.specs.shelf.Lists.{sumBy, countBy, kept-by}
 use Rattle.std.proofs.shelf.Sums.{sumBy-cons, sumBy-push, sumBy-set, countBy-le-length}
@@ -15,7 +17,7 @@ use Rattle.std.proofs.shelf.Ways.{tells}
 use Rattle.book.specs.declared.flow.Flow.{Flow}
 use Rattle.book.specs.declared.entry.Entry.{Entry}
 use Rattle.book.specs.Places.{Apart, Held, Absent}
-use Rattle.book.specs.Live.{same-flow, live, live-total, AllLive, NoneBefore, Same, without}
+use Rattle.book.specs.Live.{same-flow, live, live-total, AllLive, NoneBefore, Same, without, RoomMade, Full}
 use Rattle.book.proofs.Weigh.{sum-agree, sum-but-one, sum-swapped, sum-kept}
 use Rattle.book.proofs.Places.{off-held, off-absent, here-held}
 
@@ -120,3 +122,13 @@ module _ (t i : ℕ) (es fs : List Entry) (x r : Entry) (is : fs ≡ swapped es 
 -- entries whose deadlines are all past the clock
 pub live-past : (t n : ℕ) (es : List Entry) → t < n → NoneBefore n es → AllLive t es
 live-past t n es l waiting k w d = let b : n ≤ getD es k d .deadline = waiting k d w in lt-ltb _ _ (omega arith)
+
+-- a swept book has room, or all that it has room for are live
+pub swept-room : (t n : ℕ) (es fs : List Entry) → n ≡ length fs → length fs ≤ 1024 → Same t fs es → AllLive t fs
+    → (b : Bool) → ltb n 1024 ≡ b → When b (RoomMade t es fs) (Full t es fs)
+swept-room t n es fs len most same all true e =
+    let few : n < 1024 = grind (arith, tells) in
+    record { fewer = omega (arith, countBy-le-length (λ e. live t e && true) fs, same (λ _. true)); few = omega arith; same = same }
+swept-room t n es fs len most same all false e =
+    let full : 1024 ≤ n = grind (arith, tells) in
+    record { full = omega (arith, all-live t fs all, same (λ _. true)); same = same }

@@ -20,9 +20,9 @@ use Rattle.book.specs.declared.answer.Answer.the-variants as answer
 use Rattle.book.specs.declared.passage.Passage.{Passage}
 use Rattle.book.specs.Places.{Apart}
 use Rattle.book.specs.Steps.{erases, advanced}
-use Rattle.book.specs.Live.{live, find, Same, live-count, live-total, without, after-fit}
+use Rattle.book.specs.Live.{live, live-entries, find, Same, live-count, live-total, without, after-fit}
 use Rattle.book.specs.Passages.{fits-from, flow-from, flags-of, opens-new, opened-entry, fit-from, or-fit, fit-of, Settles, answer-for, entries-for}
-use Rattle.book.proofs.Weigh.{sum-agree}
+use Rattle.book.proofs.Weigh.{sum-agree, sum-kept}
 use Rattle.book.proofs.Edits.{same-without, same-cons}
 use Rattle.book.proofs.Agree.{same-find, once}
 
@@ -41,6 +41,16 @@ later t u es fs l h p = turn es ∙ h (λ e. live u e && p e) ∙ sym (turn fs)
     turn : (gs : List Entry) → live-count u p gs ≡ live-count t (λ e. live u e && p e) gs
     turn gs = sum-agree (λ e. cond (live u e && p e) 1 0) (λ e. cond (live t e && (live u e && p e)) 1 0) gs
         (λ k d b. lasting (live t (getD gs k d)) (live u (getD gs k d)) (p (getD gs k d)) (live-before t u (getD gs k d) l))
+
+only-live : (a b : Bool) → _≡_ {A = ℕ} (cond a (cond (a && b) 1 0) 0) (cond (a && b) 1 0)
+only-live true b = refl
+only-live false b = refl
+
+-- a model may forget what is no longer live
+pub same-live : (t : ℕ) (es : List Entry) → Same t es (live-entries t es)
+same-live t es p =
+    sym (sum-kept (λ e. cond (live t e && p e) 1 0) (live t) es
+    ∙ sum-agree (λ e. cond (live t e) (cond (live t e && p e) 1 0) 0) (λ e. cond (live t e && p e) 1 0) es (λ k d l. only-live (live t (getD es k d)) (p (getD es k d))))
 
 module _ (p : Passage) (t : ℕ) (es m : List Entry) (same : Same t es m) where
   -- a packet fits the same entry

@@ -44,6 +44,10 @@ live-count t p es = countBy (λ e. live t e && p e) es
 abbrev pub Same : ℕ → List Entry → List Entry → Type 0
 Same t es fs = (p : Entry → Bool) → live-count t p es ≡ live-count t p fs
 
+-- the entries that are live, and no others
+abbrev pub live-entries : ℕ → List Entry → List Entry
+live-entries t es = kept-by (live t) es
+
 -- the entries of other flows
 abbrev pub without : Flow → List Entry → List Entry
 without f es = kept-by (λ e. not (same-flow (e .flow) f)) es

@@ -40,10 +40,7 @@ impl Book {
             return false;
         }
         self.sweep(clock);
-        if self.entries.len() < CAPACITY {
-            return true;
-        }
-        false
+        self.entries.len() < CAPACITY
     }
 
     // Records a new connection, in the place of what its flow had. False where as many as there is room for are live.
