@@ -49,7 +49,7 @@ fn same_end(a: End, b: End) -> bool
 pub(crate) fn same(a: Flow, b: Flow) -> bool
     ensures result { λ r. ⌜ When r (a ≡ b) (a ≡ b → ⊥) ⌝ }
 {
-    a.protocol.value() == b.protocol.value()
-        && same_end(a.opener, b.opener)
+    same_end(a.opener, b.opener)
         && same_end(a.other, b.other)
+        && a.protocol.value() == b.protocol.value()
 }

@@ -15,7 +15,7 @@ pub struct Keys {
 }
 
 // A number whose every bit depends on all bits of `x`, one to one.
-fn mixed(x: u64) -> u64 {
+fn scrambled(x: u64) -> u64 {
     let y = (x ^ (x >> 30)).wrapping_mul(0xbf58_476d_1ce4_e5b9);
     let z = (y ^ (y >> 27)).wrapping_mul(0x94d0_49bb_1331_11eb);
     z ^ (z >> 31)
@@ -23,7 +23,7 @@ fn mixed(x: u64) -> u64 {
 
 // The n-th multiplier of a seed.
 fn key(seed: u64, n: u64) -> u64 {
-    mixed(seed.wrapping_add(n.wrapping_mul(0x9e37_79b9_7f4a_7c15)))
+    scrambled(seed.wrapping_add(n.wrapping_mul(0x9e37_79b9_7f4a_7c15)))
 }
 
 impl Keys {
@@ -38,17 +38,18 @@ impl Keys {
     }
 }
 
-// The slot at which the walk for the flow begins: the top 12 bits of a sum of products.
+// The slot at which the walk for the flow begins: the top 12 bits of a sum of products, mixed so that flows in a row do not
+// stand in a row.
 pub(crate) fn home_of(keys: Keys, flow: Flow) -> usize
     ensures result { λ r. ⌜ r ≡ home keys flow ⌝ }
     ensures below { λ r. ⌜ r < 4096 ⌝ }
 {
     let ports = u64::from(flow.opener.port) * 0x1_0000 + u64::from(flow.other.port);
-    let opener = keys.opener
-        .wrapping_mul(u64::from(flow.opener.address.bits));
-    let other = keys.other.wrapping_mul(u64::from(flow.other.address.bits));
-    let rest = keys.ports.wrapping_mul(ports).wrapping_add(
-        keys.protocol.wrapping_mul(u64::from(flow.protocol.value())),
-    );
-    (opener.wrapping_add(other).wrapping_add(rest) >> 52) as usize
+    let sum = keys.opener
+        .wrapping_mul(u64::from(flow.opener.address.bits))
+        .wrapping_add(keys.other.wrapping_mul(u64::from(flow.other.address.bits)))
+        .wrapping_add(keys.ports.wrapping_mul(ports))
+        .wrapping_add(keys.protocol.wrapping_mul(u64::from(flow.protocol.value())));
+    let mixed = (sum ^ (sum >> 32)).wrapping_mul(0x9e37_79b9_7f4a_7c15);
+    (mixed >> 52) as usize
 }

@@ -61,11 +61,11 @@ fn someone(chance: &mut Chance, hosts: u8) -> End {
 
 // The clock stands mostly still, and seldom leaps over a lifetime.
 fn tick(chance: &mut Chance, clock: u32) -> u32 {
-    let by = match chance.below(4096) {
-        0 => 500_000,
-        1..=4 => 200,
-        5..=40 => 29,
-        41..=300 => 1,
+    let by = match chance.below(65_536) {
+        0..=3 => 500_000,
+        4..=30 => 200,
+        31..=150 => 29,
+        151..=900 => 1,
         _ => 0,
     };
     clock.saturating_add(by)
@@ -81,13 +81,13 @@ fn ask(book: &mut Book, passage: &Passage, clock: u32) -> Judged {
     Judged { label, answer }
 }
 
-// Runs both books over the same packets. Few hosts at first in each round, so that packets meet entries; then so
-// many that the book fills.
+// Runs both books over the same packets. Few hosts at first in each round, so that packets meet entries; then
+// enough for the book to fill.
 fn compare(book: &mut Book, plain: &mut Plain, tally: &mut Tally) -> Result<(), AllocError> {
     let mut chance = Chance::new(1_024);
     let mut clock: u32 = 0;
     for n in 0..STEPS {
-        let hosts = 2 + (n / 1000 % 5) as u8 * 5;
+        let hosts = 2 + (n / 1000 % 5) as u8;
         clock = tick(&mut chance, clock);
         let passage = Passage {
             kind: kind(&mut chance),
