@@ -1,9 +1,9 @@
 -- Which strings are stored for a list of fronts, and what their rows show.
-use Prim.Native.Nat.{ℕ, zero, suc, _+_, _-_, _≤_, _<_}
+use Prim.Native.Nat.{ℕ, suc, _+_, _-_, _≤_, _<_}
 use mathlib.Core.Path.{_≡_, refl, sym, ap, subst, _∙_}
 use mathlib.Core.Bool.{Bool, true, false, not, _&&_, _||_}
 use mathlib.Core.List.{List, [], _∷_, map}
-use mathlib.Core.Logic.{_⊎_, inl, inr, ⊎-elim}
+use mathlib.Core.Logic.{_⊎_, ⊎-elim}
 use native.Mathlib.Omega.{arith}
 use lib.Dec.{eqb}
 use lib.ListN.{length, getD}
@@ -11,7 +11,7 @@ use Rattle.std.specs.Holes.{inserted, removed}
 use Rattle.std.specs.Orderings.{When}
 use Rattle.std.specs.declared.option.Option.{Option}
 use Rattle.std.specs.declared.option.Option.the-variants.{Some, None}
-use Rattle.std.proofs.shelf.Tests.{both-ways, cases-bool, cases-eq, cases-lt, cases-order, and-parts, and-from, eqb-true, eq-eqb, ne-eqb, or-left, or-right}
+use Rattle.std.proofs.shelf.Tests.{both-ways, cases-bool, cases-lt, cases-order, and-parts, and-from, eqb-true, eq-eqb, ne-eqb, or-right}
 use Rattle.std.proofs.shelf.Lists.{getD-map, getD-default, getD-past, length-map, nil-from-length}
 use Rattle.std.proofs.shelf.Edits.{length-inserted, getD-inserted-below, getD-inserted-at, getD-inserted-above, length-removed, getD-removed-below, getD-removed-above}
 use Rattle.fields.specs.Strings.{begins, same}

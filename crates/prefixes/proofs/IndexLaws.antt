@@ -1,13 +1,11 @@
 -- What an indexed set keeps truncated, it has.
-use Prim.Native.Nat.{ℕ, _+_, _≤_, _<_}
-use mathlib.Core.Path.{_≡_, refl, sym, ap, subst, _∙_}
-use mathlib.Core.Bool.{true}
+use Prim.Native.Nat.{ℕ}
+use mathlib.Core.Path.{_≡_, sym, ap, subst, _∙_}
 use mathlib.Core.List.{List, map}
 use mathlib.Core.Logic.{∥∥₁-elim}
 use denote.Struct.Props.{props}
 use std.HLevel.{Π-prop}
-use native.Mathlib.Bridge.{le-prop}
-use lib.ListN.{length, getD}
+use lib.ListN.{getD}
 use Rattle.prefixes.specs.Stored.{Ascending, LinkedTo}
 use Rattle.prefixes.specs.Bits.{bitsOf}
 use Rattle.std.specs.Holes.{inserted, removed}

@@ -13,7 +13,7 @@ use Rattle.fields.specs.declared.condition.plain.Plain.the-variants.{Any, Is}
 use Rattle.rows.specs.declared.row.Row.{Row}
 use Rattle.rows.specs.Shows.{Shows}
 use Rattle.prefixes.specs.Fronts.{covers}
-use Rattle.prefixes.specs.Listed.{front-of, fronts-of}
+use Rattle.prefixes.specs.Listed.{fronts-of}
 
 covers-admits : {T V : Type 0} (passes : T → V → Bool) (front : T → List ℕ) (v : V) (s : List ℕ) → ((t : T) → passes t v ≡ begins (front t) s)
     → (cs : List (Plain T)) → map (λ f. covers f s) (fronts-of front cs) ≡ map (λ c. plain-admits passes c (Some v)) cs

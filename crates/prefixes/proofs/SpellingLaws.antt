@@ -1,16 +1,16 @@
 -- A value passes a test exactly where the front of the test begins the value's spelling.
 use Prim.Native.Nat.{ℕ, zero, suc, _+_, _*_, _-_, _/_, _%_, _^_, _≤_, _<_}
 use mathlib.Core.Path.{_≡_, refl, sym, ap, subst, _∙_}
-use mathlib.Core.Bool.{Bool, true, false, cond, _&&_}
+use mathlib.Core.Bool.{true, false, cond, _&&_}
 use mathlib.Core.List.{List, [], _∷_, _++_}
-use mathlib.Core.Logic.{_⊎_, inl, inr, ⊎-elim}
+use mathlib.Core.Logic.{_⊎_, ⊎-elim}
 use native.Mathlib.Omega.{arith}
 use native.Mathlib.Nat.{div-div-eq-div-mul}
 use lib.Dec.{eqb, ltb}
 use lib.ListN.{length, getD, take, length-take}
-use Rattle.std.proofs.shelf.Bits.{pow-add, pow-pos}
+use Rattle.std.proofs.shelf.Bits.{pow-add}
 use Rattle.std.proofs.shelf.Lists.{getD-take}
-use Rattle.std.proofs.shelf.Tests.{cases-eq, cases-lt, cases-bool, both-ways, eq-eqb, ne-eqb, lt-ltb, le-ltb, cond-true, cond-false}
+use Rattle.std.proofs.shelf.Tests.{cases-eq, cases-lt, both-ways, eq-eqb, ne-eqb, lt-ltb, le-ltb, cond-true, cond-false}
 use Rattle.std.proofs.shelf.Ways.{tells}
 use Rattle.fields.specs.Addresses.{within}
 use Rattle.fields.specs.NameBytes.{name-byte}
@@ -97,7 +97,7 @@ end-begins (x ∷ p) [] u v =
 end-begins (x ∷ p) (y ∷ s) u v = let a = end-begins p s (rest x p u) (rest y s v) in grind (arith, tells)
 
 -- an end mark behind a string does not change what begins it
-pub front-begins : (p s : List ℕ) → Endless p → begins p s ≡ begins p (s ++ 0 ∷ [])
+front-begins : (p s : List ℕ) → Endless p → begins p s ≡ begins p (s ++ 0 ∷ [])
 front-begins [] s u = refl
 front-begins (x ∷ p) [] u = sym (cond-false (eqb x 0) _ _ (ne-eqb x 0 (λ e. u 0 (omega arith) e)))
 front-begins (x ∷ p) (y ∷ s) u = ap (λ b. cond (eqb x y) b false) (front-begins p s (rest x p u))

@@ -1,8 +1,8 @@
 -- Laws of a stored set of strings.
-use Prim.Native.Nat.{ℕ, zero, suc, _+_, _-_, _≤_, _<_}
-use mathlib.Core.Path.{_≡_, refl, sym, ap, subst, _∙_}
-use mathlib.Core.Bool.{Bool, true, false, cond}
-use mathlib.Core.List.{List, [], _∷_, map}
+use Prim.Native.Nat.{ℕ, _+_, _-_, _≤_, _<_}
+use mathlib.Core.Path.{_≡_, sym, ap, subst, _∙_}
+use mathlib.Core.Bool.{Bool, true, false}
+use mathlib.Core.List.{List, []}
 use mathlib.Core.Logic.{_⊎_, inl, inr, ⊎-elim, ∥∥₁-elim}
 use denote.Struct.Props.{props}
 use std.HLevel.{Π-prop}
@@ -13,9 +13,9 @@ use Rattle.std.proofs.shelf.Lists.{getD-map, length-map, nil-from-length, getD-
 use Rattle.fields.specs.Strings.{begins}
 use Rattle.prefixes.specs.Strings.{ordered, common}
 use Rattle.prefixes.specs.Spelled.{spelled}
-use Rattle.prefixes.specs.Stored.{strings, at, Ascending, Covers, Parent, LinkedTo, Longest, Fits}
+use Rattle.prefixes.specs.Stored.{strings, at, Ascending, Covers, Parent, LinkedTo, Fits}
 use Rattle.prefixes.specs.declared.symbols.Symbols.{Symbols}
-use Rattle.prefixes.proofs.StringLaws.{begins-refl, begins-trans, begins-ordered, ordered-trans, ordered-total, between, common-between}
+use Rattle.prefixes.proofs.StringLaws.{begins-refl, begins-ordered, ordered-trans, ordered-total, between, common-between}
 
 -- both facts hold in one way at most, so a set that keeps them truncated has them
 pub ascending-of : (ss : List (List ℕ)) → ∥ Ascending ss ∥₁ → Ascending ss
@@ -90,14 +90,6 @@ not-root ss key i root f =
     (λ ge. absurd (both-ways (begins (at ss i) key) f (ap (λ (s : List ℕ). begins s key) (ap (at ss) (let e : i ≡ 0 = omega arith in e) ∙ root))))
     (cases-lt 0 i)
 
--- the empty string is behind no key
-pub some-rank : (ss : List (List ℕ)) (key : List ℕ) (n : ℕ) → Ascending ss → ((i : ℕ) → n ≤ i → i < length ss → ordered (at ss i) key ≡ false) → 0 < n
-some-rank ss key n a high =
-    ⊎-elim
-    (λ lt. lt)
-    (λ ge. absurd (both-ways (ordered (at ss 0) key) (high 0 ge (a .0)) (ap (λ (s : List ℕ). ordered s key) (nil-from-length (at ss 0) (a .1)))))
-    (cases-lt 0 n)
-
 -- one link more
 pub linked-more : (ss : List (List ℕ)) (links : List ℕ) (i r : ℕ) → i < length links → LinkedTo ss links i → Parent ss i r → LinkedTo ss (set links i r) (i + 1)
 linked-more ss links i r h linked new k pos l =
@@ -122,10 +114,6 @@ fits-vacant ss p n a pos h f high = record { above = pos; before = before; behin
         last : (i : ℕ) → i < n → ordered p (at ss i) ≡ true → (i ≡ n - 1) ⊎ (i ≡ n - 1 → ⊥) → ordered p (at ss (n - 1)) ≡ true
         last i l t (inl e) = subst (λ (k : ℕ). ordered p (at ss k) ≡ true) e t
         last i l t (inr ne) = ordered-trans p (at ss i) (at ss (n - 1)) t (ordered-total (at ss i) (at ss (n - 1)) (a .2 i (n - 1) (omega arith) (omega arith)))
-
--- some string is not behind the key
-pub some-stored : (xs : List Symbols) (key : List ℕ) (n : ℕ) → Ascending (strings xs) → ((i : ℕ) → n ≤ i → i < length xs → ordered (at (strings xs) i) key ≡ false) → 0 < n
-some-stored xs key n a high = some-rank (strings xs) key n a (λ i l h. high i l (omega (arith, length-strings xs)))
 
 -- the strings from low up to high share with the key what the two around them share
 pub window : (ss : List (List ℕ)) (key : List ℕ) (low high middle below above m : ℕ) → Ascending ss → 0 < low → low ≤ middle → middle < high → high ≤ length ss → below ≤ common (at ss (low - 1)) key → (high < length ss → above ≤ common (at ss high) key) → (length ss ≤ high → above ≡ 0) → m ≤ below → m ≤ above → m ≤ common (at ss middle) key

@@ -1,15 +1,14 @@
 -- Laws of stretches of numbers with one answer.
-use Prim.Native.Nat.{ℕ, zero, suc, _+_, _-_, _*_, _/_, _%_, _^_, _≤_, _<_}
-use mathlib.Core.Path.{_≡_, refl, sym, ap, subst, _∙_}
-use mathlib.Core.Bool.{Bool, true, false, cond}
-use mathlib.Core.List.{List, [], _∷_, map}
-use mathlib.Core.Logic.{_⊎_, inl, inr, ⊎-elim}
+use Prim.Native.Nat.{ℕ, _+_, _-_, _%_, _^_, _≤_, _<_}
+use mathlib.Core.Path.{_≡_, sym, ap, subst, _∙_}
+use mathlib.Core.Bool.{true, false}
+use mathlib.Core.List.{List, [], map}
+use mathlib.Core.Logic.{_⊎_, ⊎-elim}
 use native.Mathlib.Omega.{arith}
 use lib.ListN.{length, getD, set}
-use Rattle.std.proofs.shelf.Tests.{both-ways, cases-eq, cases-lt, cases-bool}
+use Rattle.std.proofs.shelf.Tests.{cases-eq, cases-lt, cases-bool}
 use Rattle.std.proofs.shelf.Lists.{getD-map, length-map, getD-set-same, getD-set-other}
 use Rattle.fields.specs.Strings.{begins}
-use Rattle.prefixes.specs.Strings.{ordered}
 use Rattle.prefixes.specs.Stored.{at, Ascending, Covers, LinkedTo}
 use Rattle.prefixes.specs.Bits.{bitsOf}
 use Rattle.prefixes.specs.Ranges.{low, past, Best, Stretched}
@@ -21,7 +20,7 @@ use Rattle.prefixes.proofs.RangeLaws.{begins-within, within-begins, low-ordere
 pub number-at : (f : List ℕ → ℕ) (ss : List (List ℕ)) (ns : List ℕ) (i : ℕ) → ns ≡ map f ss → i < length ss → getD ns i 0 ≡ f (at ss i)
 number-at f ss ns i e h = ap (λ (l : List ℕ). getD l i 0) e ∙ getD-map f ss i [] 0 h
 
-pub not-begun : (p : List ℕ) (k : ℕ) → k < 2 ^ 32 → past 32 p ≤ k → begins p (bitsOf 32 k) ≡ false
+not-begun : (p : List ℕ) (k : ℕ) → k < 2 ^ 32 → past 32 p ≤ k → begins p (bitsOf 32 k) ≡ false
 not-begun p k h l =
     ⊎-elim
     (λ t. let w = begins-within 32 p k t in let m : k % 2 ^ 32 ≡ k = omega arith in absurd (omega arith))

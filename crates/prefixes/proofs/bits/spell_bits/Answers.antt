@@ -1,7 +1,6 @@
-use Prim.Native.Nat.{ℕ, _<_}
+use Prim.Native.Nat.{_<_}
 use native.Mathlib.Omega.{arith}
-use mathlib.Core.List.{_++_, _∷_, []}
-use mathlib.Core.Path.{_≡_, sym, ap, _∙_}
+use mathlib.Core.Path.{ap, _∙_}
 use lib.ListN.{length, length-take}
 use Rattle.std.proofs.shelf.Lists.{take-more}
 use Rattle.prefixes.specs.Bits.{bitsOf}

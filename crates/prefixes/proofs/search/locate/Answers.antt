@@ -1,12 +1,9 @@
-use Prim.Native.Nat.{ℕ, _+_, _-_, _<_, _≤_}
+use Prim.Native.Nat.{_-_, _<_}
 use native.Mathlib.Omega.{arith}
 use mathlib.Core.Bool.{true, false}
-use mathlib.Core.List.{List}
-use mathlib.Core.Path.{_≡_, sym, _∙_}
 use lib.ListN.{length}
 use Rattle.prefixes.specs.Strings.{ordered}
-use Rattle.prefixes.specs.Stored.{strings, at, Ascending}
-use Rattle.prefixes.specs.declared.symbols.Symbols.{Symbols}
+use Rattle.prefixes.specs.Stored.{strings, at}
 use Rattle.prefixes.proofs.StringLaws.{ordered-antisym}
 use Rattle.prefixes.proofs.StoredLaws.{fits-vacant, tested-at, length-strings}
 use Rattle.prefixes.proofs.search.locate.Needs as need

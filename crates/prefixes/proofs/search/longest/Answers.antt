@@ -1,12 +1,6 @@
-use Prim.Native.Nat.{ℕ, _+_, _-_, _<_, _≤_}
-use mathlib.Core.Bool.{false}
-use mathlib.Core.List.{List}
-use Rattle.prefixes.specs.Strings.{ordered}
-use Rattle.prefixes.specs.declared.symbols.Symbols.{Symbols}
+use Prim.Native.Nat.{_-_}
 use native.Mathlib.Omega.{arith}
-use mathlib.Core.Path.{_≡_, subst}
-use lib.ListN.{length}
-use Rattle.prefixes.specs.Stored.{strings, at, Ascending, Covers}
+use Rattle.prefixes.specs.Stored.{strings, at}
 use Rattle.std.proofs.shelf.Lists.{nil-from-length}
 use Rattle.prefixes.proofs.StoredLaws.{covers-last, covers-all, length-strings}
 use Rattle.prefixes.proofs.search.longest.Needs as need

@@ -1,12 +1,11 @@
-use Prim.Native.Nat.{ℕ, _+_, _-_, _<_}
+use Prim.Native.Nat.{ℕ, _-_}
 use native.Mathlib.Omega.{arith}
 use mathlib.Core.Bool.{true}
 use mathlib.Core.List.{List}
 use mathlib.Core.Path.{_≡_, sym, subst, _∙_}
 use Rattle.fields.specs.Strings.{begins}
 use Rattle.prefixes.specs.Strings.{ordered}
-use Rattle.prefixes.specs.Spelled.{spelled}
-use Rattle.prefixes.specs.Stored.{strings, at, Covers}
+use Rattle.prefixes.specs.Stored.{strings, at}
 use Rattle.prefixes.proofs.StringLaws.{ordered-total}
 use Rattle.std.proofs.shelf.Lists.{nil-from-length}
 use Rattle.prefixes.proofs.StoredLaws.{covers-last, linked-more, read-at, length-strings}

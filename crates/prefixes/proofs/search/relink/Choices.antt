@@ -1,5 +1,3 @@
-use mathlib.Core.Path.{_≡_}
-use lib.ListN.{length}
 use Rattle.prefixes.specs.Stored.{strings, LinkedTo}
 use Rattle.prefixes.proofs.search.relink.Given as given
 

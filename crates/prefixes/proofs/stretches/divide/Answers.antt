@@ -1,7 +1,7 @@
-use Prim.Native.Nat.{ℕ, _+_, _^_, _<_, _≤_}
+use Prim.Native.Nat.{_+_, _^_, _<_}
 use native.Mathlib.Omega.{arith}
-use mathlib.Core.Path.{_≡_, refl, sym, ap, subst, _∙_}
-use lib.ListN.{length, getD, set, length-set}
+use mathlib.Core.Path.{refl, sym, ap, _∙_}
+use lib.ListN.{length, length-set}
 use Rattle.std.proofs.shelf.Lists.{nil-from-length, getD-set-same, getD-set-other}
 use Rattle.prefixes.specs.Stored.{strings, at}
 use Rattle.prefixes.specs.Ranges.{low, past}

@@ -1,8 +1,8 @@
-use Prim.Native.Nat.{ℕ, _+_, _<_}
+use Prim.Native.Nat.{ℕ}
 use native.Mathlib.Omega.{arith}
 use mathlib.Core.Logic.{⊎-elim}
-use mathlib.Core.Path.{_≡_, ap, _∙_}
-use lib.ListN.{length, getD, set}
+use mathlib.Core.Path.{ap, _∙_}
+use lib.ListN.{getD, set}
 use Rattle.std.proofs.shelf.Tests.{cases-eq}
 use Rattle.std.proofs.shelf.Lists.{getD-set-same, getD-set-other}
 use Rattle.prefixes.proofs.stretches.pad.Needs as need

@@ -1,6 +1,6 @@
-use Prim.Native.Nat.{ℕ, _+_, _<_, _≤_}
+use Prim.Native.Nat.{_+_}
 use native.Mathlib.Omega.{arith}
-use Rattle.prefixes.specs.Stored.{strings, at}
+use Rattle.prefixes.specs.Stored.{strings}
 use Rattle.prefixes.specs.Ranges.{low, past}
 use Rattle.prefixes.proofs.StoredLaws.{length-strings}
 use Rattle.prefixes.proofs.StretchLaws.{number-at, length-numbers}

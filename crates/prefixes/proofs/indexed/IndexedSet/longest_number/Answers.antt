@@ -1,7 +1,7 @@
-use Prim.Native.Nat.{ℕ, _+_, _<_, _≤_}
+use Prim.Native.Nat.{ℕ}
 use native.Mathlib.Omega.{arith}
 use mathlib.Core.List.{List}
-use mathlib.Core.Path.{_≡_, sym, ap, subst, _∙_}
+use mathlib.Core.Path.{_≡_, ap, subst, _∙_}
 use Rattle.prefixes.specs.Stored.{Longest, strings}
 use Rattle.prefixes.specs.Bits.{bitsOf}
 use Rattle.prefixes.specs.Indexed.{kept}

@@ -1,10 +1,8 @@
-use Prim.Native.Nat.{ℕ, _+_, _<_, _≤_}
 use native.Mathlib.Omega.{arith}
-use mathlib.Core.List.{List, map}
-use mathlib.Core.Path.{_≡_, sym, ap, subst, _∙_}
+use mathlib.Core.List.{map}
+use mathlib.Core.Path.{_≡_, sym, ap, _∙_}
 use lib.ListN.{length}
 use Rattle.std.specs.Of.Vec.{vec-items}
-use Rattle.std.specs.Holes.{inserted}
 use Rattle.std.proofs.shelf.Lists.{length-map}
 use Rattle.std.proofs.shelf.Tests.{cond-true}
 use Rattle.prefixes.specs.Spelled.{spelled}
@@ -12,7 +10,6 @@ use Rattle.prefixes.specs.Held.{held}
 use Rattle.prefixes.specs.Indexed.{kept}
 use Rattle.prefixes.specs.Ranges.{low, past}
 use Rattle.prefixes.proofs.StoredLaws.{ascending-of, linked-of, length-strings}
-use Rattle.prefixes.proofs.EditLaws.{map-inserted}
 use Rattle.prefixes.proofs.IndexLaws.{numbers-inserted, ascending-at, linked-at, stretched-same}
 use Rattle.prefixes.proofs.indexed.IndexedSet.put.Needs as need
 

@@ -1,8 +1,7 @@
 use native.Mathlib.Omega.{arith}
-use mathlib.Core.Path.{_≡_, ap, subst, _∙_}
+use mathlib.Core.Path.{ap, subst, _∙_}
 use mathlib.Core.Bool.{Bool}
 use mathlib.Core.List.{[]}
-use Prim.Native.Nat.{ℕ}
 use lib.ListN.{getD}
 use Rattle.std.specs.Options.{mapped}
 use Rattle.rows.specs.Tables.{Put}

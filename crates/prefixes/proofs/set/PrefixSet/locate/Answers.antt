@@ -1,5 +1,3 @@
-use mathlib.Core.Path.{sym, subst}
-use mathlib.Core.List.{List}
 use Rattle.std.specs.Of.Vec.{vec-items}
 use Rattle.prefixes.specs.Stored.{strings}
 use Rattle.prefixes.proofs.StoredLaws.{ascending-of}

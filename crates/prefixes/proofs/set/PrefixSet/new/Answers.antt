@@ -1,13 +1,11 @@
-use Prim.Native.Nat.{ℕ, _+_, _-_, _<_, _≤_}
+use Prim.Native.Nat.{ℕ, _+_, _-_}
 use native.Mathlib.Omega.{arith}
-use mathlib.Core.Bool.{Bool, true, false}
 use mathlib.Core.List.{List, [], _∷_, _++_}
 use Rattle.std.specs.Of.Vec.{vec-items}
 use lib.ListN.{length}
 use Rattle.prefixes.specs.declared.symbols.Symbols.{Symbols}
 use Rattle.prefixes.proofs.EditLaws.{ascending-same, linked-same}
-use mathlib.Core.Path.{_≡_, refl, sym, ap, subst, _∙_}
-use borrow.Author.Needs.{needs}
+use mathlib.Core.Path.{_≡_, sym, ap, _∙_}
 use Rattle.prefixes.proofs.set.PrefixSet.new.Needs as need
 
 pub ghost-result : need.ghost-result

@@ -1,17 +1,13 @@
-use Prim.Native.Nat.{ℕ, _+_, _-_, _<_, _≤_}
+use Prim.Native.Nat.{ℕ, _-_}
 use native.Mathlib.Omega.{arith}
-use mathlib.Core.Bool.{Bool, true, false}
 use mathlib.Core.List.{List}
-use mathlib.Core.Path.{_≡_, refl, sym, ap, subst, _∙_}
+use mathlib.Core.Path.{_≡_, sym, ap, subst, _∙_}
 use lib.ListN.{length}
 use Rattle.std.specs.Of.Vec.{vec-items}
-use Rattle.std.specs.Holes.{inserted, removed}
 use Rattle.std.proofs.shelf.Lists.{refilled-is}
-use Rattle.std.proofs.shelf.Tests.{cond-true}
-use Rattle.prefixes.specs.Spelled.{spelled}
 use Rattle.prefixes.specs.Stored.{strings, Ascending}
-use Rattle.prefixes.proofs.StoredLaws.{ascending-of, linked-of, length-strings}
-use Rattle.prefixes.proofs.EditLaws.{ascending-inserted, ascending-removed, strings-inserted, strings-removed, ascending-same, linked-same}
+use Rattle.prefixes.proofs.StoredLaws.{ascending-of, length-strings}
+use Rattle.prefixes.proofs.EditLaws.{ascending-removed, strings-removed, ascending-same, linked-same}
 use Rattle.prefixes.proofs.set.PrefixSet.take_out.Needs as need
 
 pub remove-requires : need.remove-requires

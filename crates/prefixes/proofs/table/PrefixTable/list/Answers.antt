@@ -8,11 +8,9 @@ use Rattle.std.specs.Holes.{inserted}
 use Rattle.std.specs.Of.Vec.{vec-items}
 use Rattle.std.specs.Options.{mapped}
 use Rattle.std.specs.Results.{isOk}
-use Rattle.std.specs.declared.option.Option.{Option}
 use Rattle.std.proofs.shelf.Lists.{length-map}
 use Rattle.std.proofs.shelf.Tests.{cond-true}
 use Rattle.fields.specs.Conditions.{plain-any}
-use Rattle.fields.specs.declared.condition.plain.Plain.{Plain}
 use Rattle.rows.specs.Shows.{Shows}
 use Rattle.rows.specs.Tables.{Put}
 use Rattle.rows.proofs.Listed.{shows-inserted}

@@ -7,7 +7,6 @@ use lib.ListN.{length, getD}
 use Rattle.std.specs.Holes.{removed}
 use Rattle.std.specs.Of.Vec.{vec-items}
 use Rattle.std.specs.Options.{mapped}
-use Rattle.std.specs.declared.option.Option.{Option}
 use Rattle.std.specs.declared.option.Option.the-variants.{None}
 use Rattle.std.proofs.shelf.Lists.{length-map, getD-map}
 use Rattle.fields.specs.Conditions.{plain-any}
