@@ -1,14 +1,12 @@
 // Reads a rule list, builds its eight columns, and prints the list with the columns' tables beside it.
 // For each value that a line `show FIELD=VALUE` names, it prints the row that the column reads, and whether
 // a plain top-down reading of the list gives the same bits.
-mod entries;
-mod field_column;
 mod input;
-mod listed;
+mod print;
+mod samples;
 mod sheet;
-
+mod sheets;
 use input::Input;
-use listed::Listed;
 use std::error::AnyError;
 
 fn run(rt: &LibcRuntime) -> Result<(), AnyError> {
@@ -16,9 +14,9 @@ fn run(rt: &LibcRuntime) -> Result<(), AnyError> {
     if input.faults > 0 {
         return Err("the list is refused".into());
     }
-    let listed = Listed::build(rt.alloc(), &input.rules)?;
-    sheet::print_list(rt, &input.rules, &listed)?;
-    sheet::print_values(rt, &listed, &input.values)
+    let sheets = sheets::all(rt.alloc(), &input.rules, &input.values)?;
+    print::list(rt, &input.rules, &sheets)?;
+    print::values(rt, &sheets)
 }
 
 fn main(rt: LibcRuntime) -> Result<(), AnyError> {

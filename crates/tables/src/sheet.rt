@@ -1,131 +1,93 @@
-// What is printed: the list with the tables beside it, and the rows of the values that are asked for.
-use crate::entries::Table;
-use crate::entries::tables;
-use crate::field_column::FieldColumn;
-use crate::input::Shown;
-use crate::listed::Listed;
+// What one column says: the rows of its table, and the rows of the values that are asked for.
 use columns::column::Column;
 use fields::condition::Condition;
-use notation::rule::Rule;
-use notation::rule::RuleDisplay;
-use notation::value::FieldValue;
 use rows::Row;
+use std::alloc::Global;
 use std::error::AnyError;
 
-// Each table's entries in the order of its digits.
-fn print_legend(rt: &LibcRuntime, tables: &[Table]) -> Result<(), AnyError> {
-    for table in tables {
-        let name = table.name;
-        let count = table.labels.len();
-        print!(rt, "{name}, {count} entries:")?;
-        for label in &table.labels {
-            print!(rt, " {label}")?;
-        }
-        println!(rt, "")?;
-    }
-    Ok(())
+// A value, or absence, with the text that names it.
+#[derive(Drop)]
+pub struct Sample<V: Copy> {
+    pub text: String,
+    pub value: Option<V>,
 }
 
-// The names of the tables over their digits.
-fn print_heading(rt: &LibcRuntime, tables: &[Table]) -> Result<(), AnyError> {
-    print!(rt, "{:<4} {:<66}", "no.", "rule")?;
-    for table in tables {
-        let width = table.labels.len();
-        let name = table.name;
-        print!(rt, "  {name:<width$}")?;
-    }
-    println!(rt, "")?;
-    Ok(())
+// A row with the text of its value, and whether the plain reading gives the same bits.
+#[derive(Drop)]
+pub struct Reading {
+    pub text: String,
+    pub row: Row,
+    pub same: bool,
 }
 
-// The bits of the rule at a place in each entry of the table.
-fn print_bits(rt: &LibcRuntime, table: &Table, place: usize) -> Result<(), AnyError> {
-    print!(rt, "  ")?;
-    for row in &table.rows {
-        if row.get(place) {
-            print!(rt, "1")?;
-        } else {
-            print!(rt, "0")?;
+#[derive(Drop)]
+pub struct Sheet {
+    pub name: &'static str,
+    // whether some rule has another condition than any here
+    pub used: bool,
+    pub table: Vec<Reading>,
+    pub asked: Vec<Reading>,
+}
+
+// The column that lists the conditions.
+fn build<K: Condition, C: Column<Condition = K>>(heap: Global, conditions: &[K]) -> Result<C, AnyError> {
+    let mut column = C::new(heap)?;
+    for condition in conditions {
+        let position = column.len() + 1;
+        if column.insert(position, *condition).is_err() {
+            return Err("a list has at most 512 rules".into());
         }
     }
-    for _ in table.rows.len()..table.name.len() {
-        print!(rt, " ")?;
-    }
-    Ok(())
+    Ok(column)
 }
 
-pub fn print_list(rt: &LibcRuntime, rules: &[Rule], listed: &Listed) -> Result<(), AnyError> {
-    let count = rules.len();
-    println!(rt, "{count} rules")?;
-    let tables = tables(rt.alloc(), listed)?;
-    print_legend(rt, &tables)?;
-    print_heading(rt, &tables)?;
+fn is_used<K: Condition>(conditions: &[K]) -> bool {
+    for condition in conditions {
+        if !condition.is_any() {
+            return true;
+        }
+    }
+    false
+}
+
+// Whether the row has just the bits that the conditions give when they are asked one by one.
+fn is_top_down<V: Copy, K: Condition<Value = V>>(conditions: &[K], value: Option<V>, row: &Row) -> bool {
     let mut place = 0usize;
-    for rule in rules {
-        let number = place.saturating_add(1);
-        let text = format!(rt.alloc(), "{rule}")?;
-        print!(rt, "{number:<4} {text:<66}")?;
-        for table in &tables {
-            print_bits(rt, table, place)?;
+    for condition in conditions {
+        if row.get(place) != condition.holds_on(value) {
+            return false;
         }
-        println!(rt, "")?;
-        place = number;
+        place = place.saturating_add(1);
     }
-    Ok(())
-}
-
-// The words that a list of this length reaches.
-fn print_words(rt: &LibcRuntime, row: &Row, length: usize) -> Result<(), AnyError> {
-    let words = row.words();
-    let mut place = 0usize;
-    for word in words {
-        if place == 0 || place < length {
-            print!(rt, " {word:016X}")?;
-        }
-        place = place.saturating_add(64);
-    }
-    Ok(())
-}
-
-// The row that the column reads, and what the plain reading says to it.
-fn print_row<C: Column>(rt: &LibcRuntime, text: &str, field: &FieldColumn<C>, value: Option<<C::Condition as Condition>::Value>) -> Result<bool, AnyError> {
-    let row = field.row(value);
-    let same = field.is_top_down(value, &row);
-    print!(rt, "{text:<24}")?;
-    print_words(rt, &row, field.conditions.len())?;
-    if same {
-        println!(rt, "  as read top-down")?;
-    } else {
-        println!(rt, "  NOT as read top-down")?;
-    }
-    Ok(same)
-}
-
-fn print_value(rt: &LibcRuntime, listed: &Listed, shown: &Shown) -> Result<bool, AnyError> {
-    let text = shown.text.as_str();
-    match shown.value {
-        FieldValue::Source(value) => print_row(rt, text, &listed.source, value),
-        FieldValue::Destination(value) => print_row(rt, text, &listed.destination, value),
-        FieldValue::Protocol(value) => print_row(rt, text, &listed.protocol, value),
-        FieldValue::SourcePort(value) => print_row(rt, text, &listed.source_port, value),
-        FieldValue::DestinationPort(value) => print_row(rt, text, &listed.destination_port, value),
-        FieldValue::Flags(value) => print_row(rt, text, &listed.flags, value),
-        FieldValue::Label(value) => print_row(rt, text, &listed.label, value),
-        FieldValue::Interface(value) => print_row(rt, text, &listed.interface, value),
-    }
-}
-
-pub fn print_values(rt: &LibcRuntime, listed: &Listed, values: &[Shown]) -> Result<(), AnyError> {
-    let mut same = 0usize;
-    for shown in values {
-        if print_value(rt, listed, shown)? {
-            same = same.saturating_add(1);
+    for behind in place..512 {
+        if row.get(behind) {
+            return false;
         }
     }
-    let count = values.len();
-    println!(rt, "{same} of {count} rows are as read top-down")?;
-    if same < count {
-        return Err("a column and the list disagree".into());
+    true
+}
+
+fn read_all<V: Copy, K: Condition<Value = V>, C: Column<Condition = K>>(heap: Global, column: &C, conditions: &[K], samples: Vec<Sample<V>>) -> Result<Vec<Reading>, AnyError> {
+    let mut readings = Vec::new(heap);
+    for sample in samples {
+        let Sample { text, value } = sample;
+        let mut row = Row::zeros();
+        column.read(value, &mut row);
+        let same = is_top_down(conditions, value, &row);
+        readings.push(Reading { text, row, same })?;
     }
-    Ok(())
+    Ok(readings)
+}
+
+// The sheet of a column over these conditions, read at the samples.
+pub fn sheet<V: Copy, K: Condition<Value = V>, C: Column<Condition = K>>(heap: Global, name: &'static str, conditions: &[K], samples: Vec<Sample<V>>, asked: Vec<Sample<V>>) -> Result<Sheet, AnyError> {
+    let column: C = build(heap, conditions)?;
+    let table = read_all(heap, &column, conditions, samples)?;
+    let asked = read_all(heap, &column, conditions, asked)?;
+    Ok(Sheet {
+        name,
+        used: is_used(conditions),
+        table,
+        asked,
+    })
 }
