@@ -43,7 +43,7 @@ fn fields(rt: &LibcRuntime, fields: &Fields) -> io::Result<()> {
     if let Some(echo) = fields.echo {
         let kind = echo.kind;
         let identifier = echo.identifier;
-        println!(rt, "  echo {kind:?} {identifier}")?;
+        println!(rt, "  echo {kind:?}, identifier {identifier}")?;
     }
     Ok(())
 }
