@@ -1,18 +1,17 @@
 -- Two lists with the same live entries, in any order, answer a look-up alike.
-use mathlib.Core.Path.{_≡_, refl, sym, ap, subst, _∙_}
+use mathlib.Core.Path.{_≡_, refl, sym, ap, _∙_}
 use mathlib.Core.Bool.{Bool, true, false, cond, not, _&&_}
 use mathlib.Core.List.{List, [], _∷_}
-use Prim.Native.Nat.{ℕ, zero, suc, _+_, _<_, _≤_}
+use Prim.Native.Nat.{ℕ, suc, _+_, _≤_}
 use native.Mathlib.Omega.{arith}
 use lib.Dec.{eqb}
-use lib.ListN.{length, getD}
-use Rattle.std.specs.shelf.Lists.{sumBy, countBy}
+use lib.ListN.{getD}
+use Rattle.std.specs.shelf.Lists.{countBy}
 use Rattle.std.proofs.shelf.Sums.{sumBy-cons}
 use Rattle.std.proofs.shelf.Ways.{tells}
 use Rattle.std.specs.declared.option.Option.{Option}
 use Rattle.std.specs.declared.option.Option.the-variants.{Some, None}
 use Rattle.book.specs.declared.flow.Protocol.{Protocol}
-use Rattle.book.specs.declared.flow.End.{End}
 use Rattle.book.specs.declared.flow.Flow.{Flow}
 use Rattle.book.specs.declared.entry.Entry.{Entry}
 use Rattle.book.specs.declared.entry.State.{State}
@@ -20,7 +19,7 @@ use Rattle.book.specs.declared.entry.State.the-variants.{Opened, Answered, Clo
 use Rattle.book.specs.Places.{Apart}
 use Rattle.book.specs.Values.{protocol-value, state-value}
 use Rattle.book.proofs.Flows.{protocol-equal, same-equal, apart-flows}
-use Rattle.book.specs.Live.{first, same-end, same-flow, live, find, live-count, Same}
+use Rattle.book.specs.Live.{first, same-flow, live, find, live-count, Same}
 use Rattle.book.proofs.Weigh.{sum-agree, first-none}
 
 module _ {X : Type 0} (q : X → Bool) where

@@ -2,7 +2,7 @@
 use mathlib.Core.Path.{_≡_, refl, sym, ap, subst, _∙_}
 use mathlib.Core.Bool.{Bool, true, false, cond, not, _&&_}
 use mathlib.Core.List.{List, [], _∷_, _++_}
-use Prim.Native.Nat.{ℕ, zero, suc, _+_, _-_, _<_, _≤_}
+use Prim.Native.Nat.{ℕ, suc, _+_, _-_, _<_, _≤_}
 use native.Mathlib.Omega.{arith}
 use lib.Dec.{ltb}
 use lib.ListN.{length, getD, set, take, length-set}
@@ -11,7 +11,7 @@ use borrow.Author.Tests.{lt-ltb, le-ltb}
 use Rattle.std.specs.Holes.{swapped}
 use Rattle.std.specs.Orderings.{When}
 use Rattle.std.proofs.shelf.Lists.{getD-default}
-use Rattle.std.specs.shelf.Lists.{sumBy, countBy, kept-by}
+use Rattle.std.specs.shelf.Lists.{sumBy}
 use Rattle.std.proofs.shelf.Sums.{sumBy-cons, sumBy-push, sumBy-set, countBy-le-length}
 use Rattle.std.proofs.shelf.Ways.{tells}
 use Rattle.book.specs.declared.flow.Flow.{Flow}

@@ -14,11 +14,10 @@ use Rattle.std.proofs.shelf.Lists.{getD-default}
 use Rattle.book.specs.declared.flow.Flow.{Flow}
 use Rattle.book.specs.declared.entry.Entry.{Entry}
 use Rattle.book.specs.declared.entry.Side.{Side}
-use Rattle.book.specs.declared.advance.Outcome.{Outcome}
 use Rattle.book.specs.declared.advance.Outcome.the-variants.{Renewed, Erased}
 use Rattle.book.specs.Places.{Apart, Held, Absent}
 use Rattle.book.specs.Steps.{erases, advanced}
-use Rattle.book.specs.Live.{live, find, without, Same, Fitted, after-fit}
+use Rattle.book.specs.Live.{live, find, without, Same, Fitted}
 use Rattle.book.proofs.Places.{found-live, found-dead, found-none}
 use Rattle.book.proofs.Edits.{same-set, same-swapped}
 

@@ -2,7 +2,7 @@
 use mathlib.Core.Path.{_≡_, refl, sym, ap, subst, _∙_}
 use mathlib.Core.Bool.{Bool, true, false, cond, _&&_}
 use mathlib.Core.List.{List, _∷_}
-use Prim.Native.Nat.{ℕ, _<_, _≤_}
+use Prim.Native.Nat.{ℕ, _≤_}
 use lib.Dec.{ltb}
 use lib.ListN.{getD}
 use native.Mathlib.Omega.{arith}
@@ -10,9 +10,7 @@ use Rattle.std.specs.Orderings.{When}
 use Rattle.std.specs.declared.option.Option.{Option}
 use Rattle.std.specs.declared.option.Option.the-variants.{Some, None}
 use Rattle.std.proofs.shelf.Ways.{tells}
-use Rattle.book.specs.declared.flow.Flow.{Flow}
 use Rattle.book.specs.declared.entry.Entry.{Entry}
-use Rattle.book.specs.declared.entry.Side.{Side}
 use Rattle.book.specs.declared.entry.Side.the-variants.{Opener, Other}
 use Rattle.book.specs.declared.fit.Fit.{Fit}
 use Rattle.book.specs.declared.answer.Answer.{Answer}
@@ -20,7 +18,7 @@ use Rattle.book.specs.declared.answer.Answer.the-variants as answer
 use Rattle.book.specs.declared.passage.Passage.{Passage}
 use Rattle.book.specs.Places.{Apart}
 use Rattle.book.specs.Steps.{erases, advanced}
-use Rattle.book.specs.Live.{live, live-entries, find, Same, live-count, live-total, without, after-fit}
+use Rattle.book.specs.Live.{live, live-entries, Same, live-count, live-total, without}
 use Rattle.book.specs.Passages.{fits-from, flow-from, flags-of, opens-new, opened-entry, fit-from, or-fit, fit-of, Settles, answer-for, entries-for}
 use Rattle.book.proofs.Weigh.{sum-agree, sum-kept}
 use Rattle.book.proofs.Edits.{same-without, same-cons}

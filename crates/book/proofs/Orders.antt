@@ -1,6 +1,6 @@
 -- What an edit leaves of the invariants of a book.
-use mathlib.Core.Path.{_≡_, refl, sym, ap, subst, _∙_}
-use mathlib.Core.Logic.{_⊎_, inl, inr, _≢_}
+use mathlib.Core.Path.{_≡_, sym, ap, subst, _∙_}
+use mathlib.Core.Logic.{inl, inr, _≢_}
 use mathlib.Core.List.{List}
 use Prim.Native.Nat.{ℕ, _+_, _-_, _<_, _≤_}
 use native.Mathlib.Omega.{arith}
@@ -9,7 +9,7 @@ use lib.Seq.{getD-set-same, getD-set-other}
 use Rattle.book.specs.declared.flow.Flow.{Flow}
 use Rattle.book.specs.declared.entry.Entry.{Entry}
 use Rattle.book.specs.declared.hash.Keys.{Keys}
-use Rattle.book.specs.Places.{Clash, Apart, Held, Absent}
+use Rattle.book.specs.Places.{Apart, Held, Absent}
 use Rattle.book.specs.Index.{Reached}
 use Rattle.book.specs.Live.{NoneBefore}
 use Rattle.book.proofs.Walk.{three, reached-at}

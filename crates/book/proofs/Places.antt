@@ -1,16 +1,15 @@
 -- What the place of a flow says of the flow's live entry.
-use mathlib.Core.Path.{_≡_, refl, sym, ap, subst, _∙_}
-use mathlib.Core.Bool.{Bool, true, false, cond, _&&_}
-use mathlib.Core.Logic.{_⊎_, inl, inr}
+use mathlib.Core.Path.{_≡_, sym, ap, _∙_}
+use mathlib.Core.Bool.{true, false, _&&_}
+use mathlib.Core.Logic.{inl, inr}
 use mathlib.Core.List.{List}
-use Prim.Native.Nat.{ℕ, _+_, _<_, _≤_}
+use Prim.Native.Nat.{ℕ, _<_}
 use native.Mathlib.Omega.{arith}
 use lib.ListN.{length, getD}
-use Rattle.std.specs.declared.option.Option.{Option}
 use Rattle.std.specs.declared.option.Option.the-variants.{Some, None}
 use Rattle.book.specs.declared.flow.Flow.{Flow}
 use Rattle.book.specs.declared.entry.Entry.{Entry}
-use Rattle.book.specs.Places.{Apart, Held, Absent, Clash}
+use Rattle.book.specs.Places.{Apart, Held, Absent}
 use Rattle.book.specs.Live.{same-flow, live, find}
 use Rattle.book.proofs.Walk.{three}
 use Rattle.book.proofs.Flows.{same-from, apart-flows}

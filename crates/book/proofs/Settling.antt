@@ -11,12 +11,11 @@ use Rattle.book.specs.declared.entry.Entry.{Entry}
 use Rattle.book.specs.declared.entry.Side.the-variants.{Opener, Other}
 use Rattle.book.specs.declared.advance.Outcome.{Outcome}
 use Rattle.book.specs.declared.advance.Outcome.the-variants as outcome
-use Rattle.book.specs.declared.answer.Answer.{Answer}
 use Rattle.book.specs.declared.answer.Answer.the-variants as answer
 use Rattle.book.specs.declared.fit.Fit.{Fit}
 use Rattle.book.specs.declared.passage.Passage.{Passage}
 use Rattle.book.specs.Steps.{erases}
-use Rattle.book.specs.Live.{find, Same, Fitted, after-fit}
+use Rattle.book.specs.Live.{find, Fitted}
 use Rattle.book.specs.Passages.{answer-of, fits-from, flow-from, flags-of, fit-from, or-fit, fit-of, Settles}
 
 only-if : (b : Bool) (o : Option Entry) (e : Entry) → cond b o None ≡ Some e → o ≡ Some e

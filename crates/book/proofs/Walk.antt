@@ -1,6 +1,6 @@
 -- Walks through the slots of an index.
 use mathlib.Core.Path.{_≡_, refl, sym, ap, subst, _∙_}
-use mathlib.Core.Bool.{Bool, true, false, cond}
+use mathlib.Core.Bool.{cond}
 use mathlib.Core.List.{List, [], _∷_}
 use mathlib.Core.Logic.{_⊎_, inl, inr, _≢_}
 use Prim.Native.Nat.{ℕ, zero, suc, _+_, _-_, _%_, _<_, _≤_}
@@ -9,7 +9,6 @@ use native.Mathlib.Omega.{arith}
 use lib.Dec.{eqb}
 use lib.ListN.{length, getD, set, replicate, length-set}
 use lib.Seq.{getD-set-same, getD-set-other}
-use Rattle.std.specs.shelf.Lists.{sumBy, countBy}
 use Rattle.std.proofs.shelf.Sums.{sumBy-cons, sumBy-set}
 use Rattle.std.proofs.shelf.Lists.{getD-default}
 use Rattle.std.proofs.shelf.Ways.{leb-tells, tells}
@@ -18,7 +17,7 @@ use Rattle.book.specs.declared.entry.Entry.{Entry}
 use Rattle.book.specs.declared.hash.Keys.{Keys}
 use Rattle.book.specs.Home.{home}
 use Rattle.book.specs.Index.{spot, frees, Taken, Met, Reached, Kept, Linked, FreeAt, Other}
-use Rattle.book.specs.Places.{Held, Absent}
+use Rattle.book.specs.Places.{Absent}
 
 pub three : (k i : ℕ) → (k < i) ⊎ ((k ≡ i) ⊎ (i < k))
 three k i = elim (leb-tells k i) [

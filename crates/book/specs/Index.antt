@@ -2,7 +2,6 @@
 use Prim.Native.Nat.{ℕ, _+_, _%_, _<_}
 use lib.Dec.{eqb}
 use lib.ListN.{length, getD}
-use mathlib.Core.Bool.{Bool}
 use mathlib.Core.List.{List}
 use mathlib.Core.Path.{_≡_}
 use Rattle.std.specs.shelf.Lists.{countBy}

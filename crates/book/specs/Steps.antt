@@ -2,7 +2,7 @@
 use Prim.Native.Nat.{ℕ, _+_}
 use lib.Bits.{bitAnd}
 use lib.Dec.{eqb}
-use mathlib.Core.Bool.{Bool, true, false, cond, not}
+use mathlib.Core.Bool.{Bool, false, cond, not}
 use Rattle.std.specs.declared.option.Option.{Option}
 use Rattle.std.specs.declared.option.Option.the-variants.{Some, None}
 use Rattle.book.specs.declared.flow.Protocol.{Protocol}
@@ -13,7 +13,7 @@ use Rattle.book.specs.declared.entry.State.the-variants.{Opened, Answered, Clo
 use Rattle.book.specs.declared.entry.Side.{Side}
 use Rattle.book.specs.declared.entry.Side.the-variants.{Opener, Other}
 use Rattle.fields.specs.declared.values.label.Label.{Label}
-use Rattle.fields.specs.declared.values.label.Label.the-variants.{New, Established, Invalid}
+use Rattle.fields.specs.declared.values.label.Label.the-variants.{New, Established}
 
 -- FIN is 1, SYN 2, RST 4, PSH 8, ACK 16, URG 32
 abbrev pub has-flag : Option ℕ → ℕ → Bool

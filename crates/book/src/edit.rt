@@ -2,8 +2,9 @@
 ghost use mathlib.Core.Path.{_≡_};
 ghost use mathlib.Core.List.{_∷_, [], _++_};
 ghost use Prim.Native.Nat.{ℕ, _+_, _<_};
-ghost use Rattle.std.specs.Of.Vec.{vec-items, vec-len};
+ghost use Rattle.std.specs.Of.Vec.{vec-len};
 ghost use Rattle.std.specs.Holes.{swapped};
+ghost use Rattle.book.specs.Books.{stored};
 ghost use Rattle.book.specs.Places.{Absent};
 ghost use Rattle.book.specs.Live.{Same, without, find, Fitted};
 use crate::advance::Outcome;
@@ -16,8 +17,8 @@ use crate::index::note;
 impl Book {
     // Adds an entry of a flow that has none.
     fn add(&mut self, entry: Entry)
-        requires { ⌜ vec-len (now self .entries) < 1024 ⌝ ∗ ⌜ Absent (vec-items (now self .entries)) (entry .flow) ⌝ }
-        ensures later { λ _. ⌜ vec-items (now (self .exit) .entries) ≡ vec-items (now (self .entry) .entries) ++ entry ∷ [] ⌝ }
+        requires { ⌜ vec-len (now self .entries) < 1024 ⌝ ∗ ⌜ Absent (stored (now self)) (entry .flow) ⌝ }
+        ensures later { λ _. ⌜ stored (now (self .exit)) ≡ stored (now (self .entry)) ++ entry ∷ [] ⌝ }
     {
         let number = self.entries.len();
         self.earliest = self.earliest.min(entry.deadline);
@@ -34,7 +35,7 @@ impl Book {
     // Takes out an entry, whose number the last one then has.
     pub(crate) fn take_out(&mut self, number: usize) -> Entry
         requires { ⌜ number < vec-len (now self .entries) ⌝ }
-        ensures later { λ r. ⌜ vec-items (now (self .exit) .entries) ≡ swapped (vec-items (now (self .entry) .entries)) number r ⌝ }
+        ensures later { λ r. ⌜ stored (now (self .exit)) ≡ swapped (stored (now (self .entry))) number r ⌝ }
         ensures len { λ r. ⌜ vec-len (now (self .exit) .entries) + 1 ≡ vec-len (now (self .entry) .entries) ⌝ }
     {
         let entry = self.entries.swap_remove(number);
@@ -53,7 +54,7 @@ impl Book {
     // Writes the entry, in the place of the one of its flow if there is one.
     pub(crate) fn put(&mut self, entry: Entry)
         requires { ⌜ vec-len (now self .entries) < 1024 ⌝ }
-        ensures later { λ _. ⌜ ((t : ℕ) → Same t (vec-items (now (self .exit) .entries)) (entry ∷ without (entry .flow) (vec-items (now (self .entry) .entries)))) ⌝ }
+        ensures later { λ _. ⌜ ((t : ℕ) → Same t (stored (now (self .exit))) (entry ∷ without (entry .flow) (stored (now (self .entry))))) ⌝ }
     {
         match self.place(entry.flow) {
             Some(i) => {
@@ -72,7 +73,7 @@ impl Book {
         flags: Option<u8>,
         clock: u32,
     ) -> Option<Outcome>
-        ensures result { λ r. ⌜ Fitted flow side flags clock (vec-items (now (self .entry) .entries)) (vec-items (now (self .exit) .entries)) r (find clock flow (vec-items (now (self .entry) .entries))) ⌝ }
+        ensures result { λ r. ⌜ Fitted flow side flags clock (stored (now (self .entry))) (stored (now (self .exit))) r (find clock flow (stored (now (self .entry)))) ⌝ }
     {
         let Some(i) = self.place(flow) else {
             return None;

@@ -1,6 +1,5 @@
 // Who talks to whom.
 ghost use mathlib.Core.Path.{_≡_};
-ghost use Prim.Native.Nat.{_<_};
 ghost use Rattle.std.specs.Orderings.{When};
 ghost use Rattle.book.specs.Values.{protocol-value};
 use fields::values::address::Address;

@@ -1,8 +1,7 @@
 // The label of a packet.
 ghost use mathlib.Core.List.{List};
 ghost use mathlib.Core.Path.{_≡_};
-ghost use Rattle.std.specs.Of.Vec.{vec-items};
-ghost use Rattle.book.specs.Books.{Keeps};
+ghost use Rattle.book.specs.Books.{Keeps, stored};
 ghost use Rattle.book.specs.Passages.{label-at};
 use crate::book::Book;
 use crate::entry::Entry;
@@ -18,7 +17,7 @@ impl Book {
     }
 
     fn find_label(&self, passage: &Passage, clock: u32) -> Label
-        ensures result { λ r. ⌜ r ≡ label-at (now (passage .entry)) clock (vec-items (now (self .entry) .entries)) ⌝ }
+        ensures result { λ r. ⌜ r ≡ label-at (now (passage .entry)) clock (stored (now (self .entry))) ⌝ }
     {
         match self.fit(passage, clock) {
             Some(fit) => fit.entry.label(fit.side),

@@ -2,8 +2,7 @@
 ghost use mathlib.Core.List.{List};
 ghost use mathlib.Core.Path.{_≡_};
 ghost use Prim.Native.Nat.{ℕ, _≤_};
-ghost use Rattle.std.specs.Of.Vec.{vec-items};
-ghost use Rattle.book.specs.Books.{Keeps};
+ghost use Rattle.book.specs.Books.{Keeps, stored};
 ghost use Rattle.book.specs.Passages.{answer-of, fit-of, Settles, answer-at, entries-at};
 use crate::advance::Outcome;
 use crate::answer::Answer;
@@ -31,7 +30,7 @@ impl Book {
     }
 
     fn take_step(&mut self, passage: &Passage, clock: u32) -> Answer
-        ensures result { λ r. ⌜ Settles (now (passage .entry)) clock (vec-items (now (self .entry) .entries)) (vec-items (now (self .exit) .entries)) r (fit-of clock (now (passage .entry)) (vec-items (now (self .entry) .entries))) ⌝ }
+        ensures result { λ r. ⌜ Settles (now (passage .entry)) clock (stored (now (self .entry))) (stored (now (self .exit))) r (fit-of clock (now (passage .entry)) (stored (now (self .entry)))) ⌝ }
     {
         match self.fit(passage, clock) {
             Some(fit) => match self.advance(

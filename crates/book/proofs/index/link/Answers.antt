@@ -3,7 +3,7 @@ use mathlib.Core.List.{List}
 use Prim.Native.Nat.{ℕ}
 use native.Mathlib.Omega.{arith}
 use Rattle.std.specs.Of.Vec.{vec-items}
-use Rattle.book.specs.Index.{FreeAt, frees}
+use Rattle.book.specs.Index.{FreeAt}
 use Rattle.book.proofs.Walk.{linked-set}
 use Rattle.book.proofs.index.link.Needs as need
 

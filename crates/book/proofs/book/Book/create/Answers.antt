@@ -1,4 +1,4 @@
-use mathlib.Core.Path.{_≡_, _∙_}
+use mathlib.Core.Path.{_∙_}
 use Rattle.std.specs.Of.Vec.{vec-items}
 use Rattle.book.specs.Live.{without}
 use Rattle.book.proofs.Edits.{same-without, same-cons}

@@ -1,12 +1,11 @@
-use mathlib.Core.Path.{_≡_, refl, sym, _∙_}
+use mathlib.Core.Path.{refl}
 use mathlib.Core.Bool.{true, _&&_}
-use Prim.Native.Nat.{ℕ, _<_, _≤_}
+use Prim.Native.Nat.{_<_}
 use native.Mathlib.Omega.{arith}
 use lib.Dec.{ltb}
 use lib.ListN.{length}
 use Rattle.std.specs.Of.Vec.{vec-items}
 use Rattle.std.proofs.shelf.Sums.{countBy-le-length}
-use Rattle.book.specs.declared.entry.Entry.{Entry}
 use Rattle.book.specs.Live.{live}
 use Rattle.book.proofs.Edits.{all-live, live-past, swept-room}
 use Rattle.book.proofs.book.Book.make_room.Needs as need

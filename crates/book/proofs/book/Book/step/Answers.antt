@@ -1,4 +1,3 @@
-use Prim.Native.Nat.{ℕ}
 use Rattle.std.specs.Of.Vec.{vec-items}
 use Rattle.book.specs.Passages.{entries-at}
 use Rattle.book.proofs.Models.{any-order, later}

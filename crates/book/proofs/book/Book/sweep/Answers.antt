@@ -1,8 +1,7 @@
-use Prim.Native.Nat.{ℕ, _<_, _≤_}
+use Prim.Native.Nat.{_<_, _≤_}
 use native.Mathlib.Omega.{arith}
 use lib.ListN.{length}
-use Rattle.std.specs.Of.Vec.{vec-items, vec-len}
-use Rattle.book.specs.declared.entry.Entry.{Entry}
+use Rattle.std.specs.Of.Vec.{vec-items}
 use Rattle.book.proofs.Edits.{swept-same, swept-front}
 use Rattle.book.proofs.book.Book.sweep.Needs as need
 

@@ -1,12 +1,11 @@
-use mathlib.Core.Path.{_≡_, sym, ap, subst, _∙_}
+use mathlib.Core.Path.{_≡_, ap, subst}
 use mathlib.Core.List.{List}
-use Prim.Native.Nat.{ℕ, _+_, _-_, _<_, _≤_}
+use Prim.Native.Nat.{ℕ, _+_, _-_, _<_}
 use native.Mathlib.Omega.{arith}
 use lib.ListN.{length, getD}
-use borrow.Author.Needs.{needs}
 use Rattle.std.specs.Of.Vec.{vec-items, vec-len}
 use Rattle.book.specs.declared.entry.Entry.{Entry}
-use Rattle.book.specs.Index.{ReachedBut, Reached}
+use Rattle.book.specs.Index.{Reached}
 use Rattle.book.proofs.Walk.{reached-at}
 use Rattle.book.proofs.Orders.{apart-swapped, none-before-swapped}
 use Rattle.book.proofs.book.Book.take_out.Needs as need

@@ -1,4 +1,4 @@
-use mathlib.Core.Path.{_≡_, sym, subst}
+use mathlib.Core.Path.{sym, subst}
 use Rattle.std.specs.Of.Vec.{vec-items}
 use Rattle.book.specs.declared.answer.Answer.{Answer}
 use Rattle.book.specs.Passages.{Settles, fit-of}
