@@ -11,8 +11,8 @@ use fields::field::Field;
 use fields::making;
 use fields::making::AddressCondition;
 use fields::making::End;
-use fields::refusal::Refusal;
 use fields::patterns::address::methods::AddressPrefixTest;
+use fields::refusal::Refusal;
 use fields::values::address::Address;
 use std::fmt;
 

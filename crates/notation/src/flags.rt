@@ -9,8 +9,8 @@ use fields::condition::sided::Sided;
 use fields::field::Field;
 use fields::making;
 use fields::making::FlagsCondition;
-use fields::refusal::Refusal;
 use fields::patterns::passing::FlagsPatternTest;
+use fields::refusal::Refusal;
 use std::fmt;
 
 const NAMES: [&str; 6] = ["FIN", "SYN", "RST", "PSH", "ACK", "URG"];

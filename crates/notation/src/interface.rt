@@ -9,9 +9,9 @@ use fields::condition::sided::Sided;
 use fields::field::Field;
 use fields::making;
 use fields::making::NameCondition;
-use fields::refusal::Refusal;
 use fields::patterns::name::NamePattern;
 use fields::patterns::name::methods::NamePatternTest;
+use fields::refusal::Refusal;
 use std::fmt;
 
 // The name behind the `/`, if there is one.

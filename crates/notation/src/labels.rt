@@ -9,8 +9,8 @@ use fields::condition::sided::Sided;
 use fields::field::Field;
 use fields::making;
 use fields::making::LabelCondition;
-use fields::refusal::Refusal;
 use fields::patterns::passing::LabelSetTest;
+use fields::refusal::Refusal;
 use fields::values::label::Label;
 use std::fmt;
 

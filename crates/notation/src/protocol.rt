@@ -10,8 +10,8 @@ use fields::condition::sided::Sided;
 use fields::field::Field;
 use fields::making;
 use fields::making::ProtocolCondition;
-use fields::refusal::Refusal;
 use fields::patterns::passing::ProtocolNumberTest;
+use fields::refusal::Refusal;
 use std::fmt;
 
 pub(crate) fn number(text: &str) -> Option<u8> {

@@ -21,13 +21,13 @@ use fields::making::LabelCondition;
 use fields::making::NameCondition;
 use fields::making::PortCondition;
 use fields::making::ProtocolCondition;
-use fields::refusal::Refusal;
 use fields::patterns::address::methods::AddressPrefixTest;
 use fields::patterns::name::methods::NamePatternTest;
 use fields::patterns::passing::FlagsPatternTest;
 use fields::patterns::passing::LabelSetTest;
 use fields::patterns::passing::PortTest;
 use fields::patterns::passing::ProtocolNumberTest;
+use fields::refusal::Refusal;
 use std::fmt;
 use std::str::FromStr;
 

@@ -61,8 +61,21 @@ fn round<C: Notation + Drop>(rt: &LibcRuntime, field: Field, text: &str) -> Resu
 
 fn addresses(rt: &LibcRuntime) -> Result<(), AnyError> {
     for text in [
-        "any", "10.1.0.0/16", "10.1.2.3", "!10.0.0.0/8", "0.0.0.0/0", "255.255.255.255/32", "10.1.2.0/16", "10.1.0.0/33", "10.1.0/16", "10.1.0.256", "!any", "10.0.0.0/",
-        "", "1.2.3.4.5", "+1.0.0.0",
+        "any",
+        "10.1.0.0/16",
+        "10.1.2.3",
+        "!10.0.0.0/8",
+        "0.0.0.0/0",
+        "255.255.255.255/32",
+        "10.1.2.0/16",
+        "10.1.0.0/33",
+        "10.1.0/16",
+        "10.1.0.256",
+        "!any",
+        "10.0.0.0/",
+        "",
+        "1.2.3.4.5",
+        "+1.0.0.0",
     ] {
         round::<AddressCondition>(rt, Field::Source, text)?;
     }
@@ -70,14 +83,36 @@ fn addresses(rt: &LibcRuntime) -> Result<(), AnyError> {
 }
 
 fn protocols(rt: &LibcRuntime) -> Result<(), AnyError> {
-    for text in ["any", "tcp", "!udp", "icmp", "6", "255", "47", "0", "256", "!any", "ip"] {
+    for text in [
+        "any",
+        "tcp",
+        "!udp",
+        "icmp",
+        "6",
+        "255",
+        "47",
+        "0",
+        "256",
+        "!any",
+        "ip",
+    ] {
         round::<ProtocolCondition>(rt, Field::Protocol, text)?;
     }
     Ok(())
 }
 
 fn ports(rt: &LibcRuntime) -> Result<(), AnyError> {
-    for text in ["any", "443", "!443", "0", "65535", "65536", "99999999999", "https", "-1"] {
+    for text in [
+        "any",
+        "443",
+        "!443",
+        "0",
+        "65535",
+        "65536",
+        "99999999999",
+        "https",
+        "-1",
+    ] {
         round::<PortCondition>(rt, Field::DestinationPort, text)?;
     }
     round::<PortCondition>(rt, Field::SourcePort, "70000")
@@ -85,7 +120,16 @@ fn ports(rt: &LibcRuntime) -> Result<(), AnyError> {
 
 fn flags(rt: &LibcRuntime) -> Result<(), AnyError> {
     for text in [
-        "any", "SYN/SYN,ACK", "!SYN/SYN,ACK", "NONE/FIN,RST", "NONE/NONE", "FIN,SYN,RST,PSH,ACK,URG/FIN,SYN,RST,PSH,ACK,URG", "ACK/SYN", "SYN", "syn/syn", "SYN/",
+        "any",
+        "SYN/SYN,ACK",
+        "!SYN/SYN,ACK",
+        "NONE/FIN,RST",
+        "NONE/NONE",
+        "FIN,SYN,RST,PSH,ACK,URG/FIN,SYN,RST,PSH,ACK,URG",
+        "ACK/SYN",
+        "SYN",
+        "syn/syn",
+        "SYN/",
     ] {
         round::<FlagsCondition>(rt, Field::Flags, text)?;
     }
@@ -93,7 +137,17 @@ fn flags(rt: &LibcRuntime) -> Result<(), AnyError> {
 }
 
 fn labels(rt: &LibcRuntime) -> Result<(), AnyError> {
-    for text in ["any", "new", "new,established", "established,new", "new,established,invalid", "!invalid", "related", "", "new,"] {
+    for text in [
+        "any",
+        "new",
+        "new,established",
+        "established,new",
+        "new,established,invalid",
+        "!invalid",
+        "related",
+        "",
+        "new,",
+    ] {
         round::<LabelCondition>(rt, Field::Label, text)?;
     }
     Ok(())
@@ -101,7 +155,22 @@ fn labels(rt: &LibcRuntime) -> Result<(), AnyError> {
 
 fn names(rt: &LibcRuntime) -> Result<(), AnyError> {
     for text in [
-        "any", "eth0", "eth+", "!eth+", "+", "/any", "!/any", "/!odd", "!/!odd", "fifteen-bytes-x", "sixteen-bytes-xy", "fourteen-bytes+", "fifteen-bytes-x+", "a b", "", "e+h",
+        "any",
+        "eth0",
+        "eth+",
+        "!eth+",
+        "+",
+        "/any",
+        "!/any",
+        "/!odd",
+        "!/!odd",
+        "fifteen-bytes-x",
+        "sixteen-bytes-xy",
+        "fourteen-bytes+",
+        "fifteen-bytes-x+",
+        "a b",
+        "",
+        "e+h",
     ] {
         round::<NameCondition>(rt, Field::Interface, text)?;
     }

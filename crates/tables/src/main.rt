@@ -6,6 +6,7 @@ mod print;
 mod samples;
 mod sheet;
 mod sheets;
+
 use input::Input;
 use std::error::AnyError;
 

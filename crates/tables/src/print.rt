@@ -82,7 +82,7 @@ pub fn list(rt: &LibcRuntime, rules: &[Rule], sheets: &[Sheet]) -> Result<(), An
     for rule in rules {
         let number = place.saturating_add(1);
         let text = format!(rt.alloc(), "{rule}")?;
-        print!(rt, "{number:>3} {text:<66}")?;
+        print!(rt, "{number:>3} {text:<80}")?;
         for sheet in sheets {
             if sheet.used {
                 bits(rt, sheet, place)?;
@@ -106,9 +106,9 @@ fn words(rt: &LibcRuntime, row: &Row) -> Result<(), AnyError> {
     Ok(())
 }
 
-fn reading(rt: &LibcRuntime, name: &str, reading: &Reading) -> Result<(), AnyError> {
+fn reading(rt: &LibcRuntime, reading: &Reading) -> Result<(), AnyError> {
     let text = reading.text.as_str();
-    print!(rt, "{name}: {text:<22}")?;
+    print!(rt, "{text:<20}")?;
     words(rt, &reading.row)?;
     if reading.same {
         println!(rt, "  as read top-down")?;
@@ -134,10 +134,13 @@ pub fn values(rt: &LibcRuntime, sheets: &[Sheet]) -> Result<(), AnyError> {
     let mut same = 0usize;
     for sheet in sheets {
         for asked in &sheet.asked {
-            reading(rt, sheet.name, asked)?;
+            reading(rt, asked)?;
         }
-        count = count.saturating_add(sheet.asked.len()).saturating_add(sheet.table.len());
-        same = same.saturating_add(agreeing(&sheet.asked)).saturating_add(agreeing(&sheet.table));
+        count = count
+            .saturating_add(sheet.asked.len())
+            .saturating_add(sheet.table.len());
+        same = same.saturating_add(agreeing(&sheet.asked))
+            .saturating_add(agreeing(&sheet.table));
     }
     println!(rt, "{same} of {count} rows are as read top-down")?;
     if same < count {

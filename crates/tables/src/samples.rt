@@ -41,7 +41,10 @@ fn address_starts(heap: Global, conditions: &[AddressCondition]) -> Result<Vec<u
     Ok(starts)
 }
 
-pub fn addresses(heap: Global, conditions: &[AddressCondition]) -> Result<Vec<Sample<Address>>, AllocError> {
+pub fn addresses(
+    heap: Global,
+    conditions: &[AddressCondition],
+) -> Result<Vec<Sample<Address>>, AllocError> {
     let mut samples = Vec::new(heap);
     for start in &address_starts(heap, conditions)? {
         let bits = *start;
@@ -120,7 +123,11 @@ pub fn labels(heap: Global) -> Result<Vec<Sample<Label>>, AllocError> {
 }
 
 // The name that these bytes are, if they are one.
-fn push_name(heap: Global, samples: &mut Vec<Sample<InterfaceName>>, bytes: &[u8]) -> Result<(), AllocError> {
+fn push_name(
+    heap: Global,
+    samples: &mut Vec<Sample<InterfaceName>>,
+    bytes: &[u8],
+) -> Result<(), AllocError> {
     if let Ok(name) = InterfaceName::new(bytes) {
         let mut text = String::new(heap);
         for byte in bytes {
@@ -132,7 +139,11 @@ fn push_name(heap: Global, samples: &mut Vec<Sample<InterfaceName>>, bytes: &[u8
     Ok(())
 }
 
-fn push_pattern(heap: Global, samples: &mut Vec<Sample<InterfaceName>>, pattern: NamePattern) -> Result<(), AllocError> {
+fn push_pattern(
+    heap: Global,
+    samples: &mut Vec<Sample<InterfaceName>>,
+    pattern: NamePattern,
+) -> Result<(), AllocError> {
     match pattern {
         NamePattern::Whole(name) => push_name(heap, samples, name.as_slice()),
         NamePattern::Beginning(beginning) => push_name(heap, samples, beginning.as_slice()),
@@ -140,7 +151,10 @@ fn push_pattern(heap: Global, samples: &mut Vec<Sample<InterfaceName>>, pattern:
 }
 
 // The names that the conditions' own bytes spell.
-pub fn names(heap: Global, conditions: &[NameCondition]) -> Result<Vec<Sample<InterfaceName>>, AllocError> {
+pub fn names(
+    heap: Global,
+    conditions: &[NameCondition],
+) -> Result<Vec<Sample<InterfaceName>>, AllocError> {
     let mut samples = Vec::new(heap);
     for condition in conditions {
         if let Plain::Is(pattern) = condition.condition() {

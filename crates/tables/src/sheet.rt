@@ -30,7 +30,10 @@ pub struct Sheet {
 }
 
 // The column that lists the conditions.
-fn build<K: Condition, C: Column<Condition = K>>(heap: Global, conditions: &[K]) -> Result<C, AnyError> {
+fn build<K: Condition, C: Column<Condition = K>>(
+    heap: Global,
+    conditions: &[K],
+) -> Result<C, AnyError> {
     let mut column = C::new(heap)?;
     for condition in conditions {
         let position = column.len() + 1;
@@ -51,7 +54,11 @@ fn is_used<K: Condition>(conditions: &[K]) -> bool {
 }
 
 // Whether the row has just the bits that the conditions give when they are asked one by one.
-fn is_top_down<V: Copy, K: Condition<Value = V>>(conditions: &[K], value: Option<V>, row: &Row) -> bool {
+fn is_top_down<V: Copy, K: Condition<Value = V>>(
+    conditions: &[K],
+    value: Option<V>,
+    row: &Row,
+) -> bool {
     let mut place = 0usize;
     for condition in conditions {
         if row.get(place) != condition.holds_on(value) {
@@ -67,7 +74,12 @@ fn is_top_down<V: Copy, K: Condition<Value = V>>(conditions: &[K], value: Option
     true
 }
 
-fn read_all<V: Copy, K: Condition<Value = V>, C: Column<Condition = K>>(heap: Global, column: &C, conditions: &[K], samples: Vec<Sample<V>>) -> Result<Vec<Reading>, AnyError> {
+fn read_all<V: Copy, K: Condition<Value = V>, C: Column<Condition = K>>(
+    heap: Global,
+    column: &C,
+    conditions: &[K],
+    samples: Vec<Sample<V>>,
+) -> Result<Vec<Reading>, AnyError> {
     let mut readings = Vec::new(heap);
     for sample in samples {
         let Sample { text, value } = sample;
@@ -80,7 +92,13 @@ fn read_all<V: Copy, K: Condition<Value = V>, C: Column<Condition = K>>(heap: Gl
 }
 
 // The sheet of a column over these conditions, read at the samples.
-pub fn sheet<V: Copy, K: Condition<Value = V>, C: Column<Condition = K>>(heap: Global, name: &'static str, conditions: &[K], samples: Vec<Sample<V>>, asked: Vec<Sample<V>>) -> Result<Sheet, AnyError> {
+pub fn make_sheet<V: Copy, K: Condition<Value = V>, C: Column<Condition = K>>(
+    heap: Global,
+    name: &'static str,
+    conditions: &[K],
+    samples: Vec<Sample<V>>,
+    asked: Vec<Sample<V>>,
+) -> Result<Sheet, AnyError> {
     let column: C = build(heap, conditions)?;
     let table = read_all(heap, &column, conditions, samples)?;
     let asked = read_all(heap, &column, conditions, asked)?;

@@ -3,7 +3,7 @@ use crate::input::Shown;
 use crate::samples;
 use crate::sheet::Sample;
 use crate::sheet::Sheet;
-use crate::sheet::sheet;
+use crate::sheet::make_sheet;
 use columns::inverting::Inverting;
 use columns::inverting::InvertingColumn;
 use columns::spread::flags::FlagsColumn;
@@ -49,7 +49,7 @@ fn source(heap: Global, rules: &[Rule], values: &[Shown]) -> Result<Sheet, AnyEr
         }
     }
     let samples = samples::addresses(heap, &conditions)?;
-    sheet::<_, _, Inverting<AddressColumn>>(heap, "src", &conditions, samples, asked)
+    make_sheet::<_, _, Inverting<AddressColumn>>(heap, "src", &conditions, samples, asked)
 }
 
 fn destination(heap: Global, rules: &[Rule], values: &[Shown]) -> Result<Sheet, AnyError> {
@@ -64,7 +64,7 @@ fn destination(heap: Global, rules: &[Rule], values: &[Shown]) -> Result<Sheet, 
         }
     }
     let samples = samples::addresses(heap, &conditions)?;
-    sheet::<_, _, Inverting<AddressColumn>>(heap, "dst", &conditions, samples, asked)
+    make_sheet::<_, _, Inverting<AddressColumn>>(heap, "dst", &conditions, samples, asked)
 }
 
 fn protocol(heap: Global, rules: &[Rule], values: &[Shown]) -> Result<Sheet, AnyError> {
@@ -79,7 +79,7 @@ fn protocol(heap: Global, rules: &[Rule], values: &[Shown]) -> Result<Sheet, Any
         }
     }
     let samples = samples::protocols(heap)?;
-    sheet::<_, _, ProtocolColumn>(heap, "proto", &conditions, samples, asked)
+    make_sheet::<_, _, ProtocolColumn>(heap, "proto", &conditions, samples, asked)
 }
 
 fn source_port(heap: Global, rules: &[Rule], values: &[Shown]) -> Result<Sheet, AnyError> {
@@ -94,7 +94,7 @@ fn source_port(heap: Global, rules: &[Rule], values: &[Shown]) -> Result<Sheet, 
         }
     }
     let samples = samples::ports(heap, &conditions)?;
-    sheet::<_, _, Inverting<ValueColumn>>(heap, "sport", &conditions, samples, asked)
+    make_sheet::<_, _, Inverting<ValueColumn>>(heap, "sport", &conditions, samples, asked)
 }
 
 fn destination_port(heap: Global, rules: &[Rule], values: &[Shown]) -> Result<Sheet, AnyError> {
@@ -109,7 +109,7 @@ fn destination_port(heap: Global, rules: &[Rule], values: &[Shown]) -> Result<Sh
         }
     }
     let samples = samples::ports(heap, &conditions)?;
-    sheet::<_, _, Inverting<ValueColumn>>(heap, "dport", &conditions, samples, asked)
+    make_sheet::<_, _, Inverting<ValueColumn>>(heap, "dport", &conditions, samples, asked)
 }
 
 fn flags(heap: Global, rules: &[Rule], values: &[Shown]) -> Result<Sheet, AnyError> {
@@ -124,7 +124,7 @@ fn flags(heap: Global, rules: &[Rule], values: &[Shown]) -> Result<Sheet, AnyErr
         }
     }
     let samples = samples::flags(heap)?;
-    sheet::<_, _, FlagsColumn>(heap, "flags", &conditions, samples, asked)
+    make_sheet::<_, _, FlagsColumn>(heap, "flags", &conditions, samples, asked)
 }
 
 fn label(heap: Global, rules: &[Rule], values: &[Shown]) -> Result<Sheet, AnyError> {
@@ -139,7 +139,7 @@ fn label(heap: Global, rules: &[Rule], values: &[Shown]) -> Result<Sheet, AnyErr
         }
     }
     let samples = samples::labels(heap)?;
-    sheet::<_, _, LabelColumn>(heap, "label", &conditions, samples, asked)
+    make_sheet::<_, _, LabelColumn>(heap, "label", &conditions, samples, asked)
 }
 
 fn interface(heap: Global, rules: &[Rule], values: &[Shown]) -> Result<Sheet, AnyError> {
@@ -154,7 +154,7 @@ fn interface(heap: Global, rules: &[Rule], values: &[Shown]) -> Result<Sheet, An
         }
     }
     let samples = samples::names(heap, &conditions)?;
-    sheet::<_, _, Inverting<NameColumn>>(heap, "in", &conditions, samples, asked)
+    make_sheet::<_, _, Inverting<NameColumn>>(heap, "in", &conditions, samples, asked)
 }
 
 pub fn all(heap: Global, rules: &[Rule], values: &[Shown]) -> Result<Vec<Sheet>, AnyError> {
