@@ -1,9 +1,6 @@
 pub mod Accepted
-mod Turned
-pub mod Tables
-mod Coding
 pub mod Pigeons
 pub mod Some
-mod Climbing
-mod Naming
+pub mod Tables
+mod Turned
 mod Worked

@@ -1,9 +1,4 @@
 pub mod Edits
 pub mod Sides
-pub mod Codes
-pub mod Spreads
-pub mod Keys
-pub mod Ports
-pub mod Ordered
-pub mod Owned
+pub mod Somewhere
 pub mod Examples

@@ -2,6 +2,4 @@
 pub mod column;
 pub mod examples;
 pub mod inverting;
-pub mod spread;
-mod table;
-pub mod values;
+pub mod table;

@@ -9,7 +9,7 @@ use Rattle.std.specs.declared.option.Option.the-variants.{Some, None}
 use Rattle.fields.specs.Strings.{begins, same}
 use Rattle.rows.specs.declared.row.Row.{Row}
 use Rattle.rows.specs.Shows.{TableShows}
-use Rattle.columns.specs.Keys.{some}
+use Rattle.columns.specs.Somewhere.{some}
 use Rattle.prefixes.specs.Stored.{at}
 
 abbrev pub Fronts : Type 0

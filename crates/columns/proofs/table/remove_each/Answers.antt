@@ -13,4 +13,4 @@ loop-code-again c =
     (record { words = [] }) (omega arith) (c .loop-code .inv) (c .remove .ensures)
 
 pub returns : need.returns
-returns c = λ k d h. c .loop-code .inv .0 k d (omega arith)
+returns c = record { later = λ k d h. c .loop-code .inv .0 k d (omega arith) }

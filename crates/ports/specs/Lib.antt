@@ -1,0 +1,4 @@
+pub mod Keys
+pub mod Ports
+pub mod Ordered
+pub mod Owned

@@ -1,0 +1,2 @@
+// The column on ports.
+pub mod values;
