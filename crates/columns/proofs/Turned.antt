@@ -21,7 +21,7 @@ use Rattle.fields.specs.declared.refusal.Refusal.{Refusal}
 use Rattle.fields.specs.declared.condition.sided.Sided.{Sided}
 use Rattle.columns.specs.Edits.{insert-answer, insert-after, remove-answer, remove-after}
 use Rattle.fields.specs.Conditions.{sided-admits}
-use Rattle.columns.specs.Sides.{sided}
+use Rattle.columns.specs.Sides.{sided, turned}
 use Rattle.columns.proofs.Accepted.{insert-ok, insert-after-ok, insert-after-err, remove-ok, remove-after-ok, remove-after-err}
 
 pub length-sided : {K : Type 0} (xs : List K) (t : ℕ → Bool) → length (sided xs t) ≡ length xs
@@ -137,20 +137,19 @@ cleared true false = refl
 cleared false true = refl
 cleared false false = refl
 
-pub read-present : {K V : Type 0} (holds : K → Option V → Bool) (v : Option V) (xs : List K) (n : ℕ) (t below flip ones out : ℕ → Bool)
+read-present : {K V : Type 0} (holds : K → Option V → Bool) (v : Option V) (xs : List K) (n : ℕ) (t below out : ℕ → Bool)
     → isSome v ≡ true → n ≡ length xs → n ≤ 512 → ((i : ℕ) → below i ≡ getD (map (λ c. holds c v) xs) i false)
-    → ((i : ℕ) → flip i ≡ differs (below i) (t i)) → ((i : ℕ) → ones i ≡ ltb i (min n 512)) → ((i : ℕ) → out i ≡ (flip i && ones i))
+    → ((i : ℕ) → out i ≡ (differs (below i) (t i) && ltb i (min n 512)))
     → (i : ℕ) → out i ≡ getD (map (λ c. sided-admits holds c v) (sided xs t)) i false
-read-present holds v xs n t below flip ones out some len few b f o r i =
+read-present holds v xs n t below out some len few b r i =
     let x : Bool = getD (map (λ c. holds c v) xs) i false in
     let m : min n 512 ≡ length xs = omega arith in
-    let l : ones i ≡ ltb i (length xs) = o i ∙ ap (ltb i) m in
-    let a : flip i ≡ differs x (t i) = f i ∙ ap (λ y. differs y (t i)) (b i) in
-    let e : out i ≡ (differs x (t i) && ltb i (length xs)) = r i ∙ ap (λ y. y && ones i) a ∙ ap (λ y. differs x (t i) && y) l in
+    let e : out i ≡ (differs x (t i) && ltb i (length xs)) =
+    r i ∙ ap (λ y. differs y (t i) && ltb i (min n 512)) (b i) ∙ ap (λ k. differs x (t i) && ltb i k) m in
     e ∙ flipped x (t i) (ltb i (length xs))
     ∙ ap (λ s. cond (ltb i (length xs)) (cond (t i) (s && not x) x) false) (sym some) ∙ sym (sided-test holds v xs t i)
 
-pub read-absent : {K V : Type 0} (holds : K → Option V → Bool) (v : Option V) (xs : List K) (t below out : ℕ → Bool)
+read-absent : {K V : Type 0} (holds : K → Option V → Bool) (v : Option V) (xs : List K) (t below out : ℕ → Bool)
     → isSome v ≡ false → ((i : ℕ) → below i ≡ getD (map (λ c. holds c v) xs) i false) → ((i : ℕ) → out i ≡ (below i && not (t i)))
     → (i : ℕ) → out i ≡ getD (map (λ c. sided-admits holds c v) (sided xs t)) i false
 read-absent holds v xs t below out none b r i =
@@ -161,3 +160,10 @@ read-absent holds v xs t below out none b r i =
     ∙ sym (cond-false (ltb i (length xs)) _ _ (le-ltb i (length xs) l)))
     (cases-lt i (length xs))
     ∙ sym (sided-test holds v xs t i)
+
+pub read-turned : {K V : Type 0} (holds : K → Option V → Bool) (v : Option V) (xs : List K) (n : ℕ) (present : Bool) (t below out : ℕ → Bool)
+    → present ≡ isSome v → n ≡ length xs → n ≤ 512 → ((i : ℕ) → below i ≡ getD (map (λ c. holds c v) xs) i false)
+    → ((i : ℕ) → out i ≡ turned (below i) (t i) present (ltb i (min n 512)))
+    → (i : ℕ) → out i ≡ getD (map (λ c. sided-admits holds c v) (sided xs t)) i false
+read-turned holds v xs n true t below out e len few b r = read-present holds v xs n t below out (sym e) len few b r
+read-turned holds v xs n false t below out e len few b r = read-absent holds v xs t below out (sym e) b r

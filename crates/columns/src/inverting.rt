@@ -9,7 +9,9 @@ use std::alloc::AllocError;
 use std::alloc::Global;
 ghost use mathlib.Core.Path.{_≡_};
 ghost use mathlib.Core.Bool.{false};
-ghost use Rattle.columns.specs.Sides.{sided};
+ghost use Prim.Native.Nat.{ℕ, min};
+ghost use lib.Dec.{ltb};
+ghost use Rattle.columns.specs.Sides.{sided, turned};
 ghost use Rattle.fields.specs.Conditions.{sided-admits};
 ghost use Rattle.rows.specs.Shown.{shown};
 ghost use Rattle.rows.specs.Shows.{Shows};
@@ -63,11 +65,19 @@ pub impl<C: Column> Column for Inverting<C> as InvertingColumn {
     {
         let present = value.is_some();
         self.below.read(value, row);
-        if present {
-            row.flip(&self.inverted);
-            row.retain(&Row::ones(self.below.len()));
-        } else {
-            row.clear(&self.inverted);
-        }
+        turn(row, &self.inverted, present, self.below.len());
+    }
+}
+
+// Turns the row of the plain conditions into that of the conditions as they stand: on a present field the inverted bits
+// are flipped, and those behind the list cleared; on an absent one the inverted bits are cleared.
+fn turn(row: &mut Row, inverted: &Row, present: bool, count: usize)
+    ensures row { λ _. ⌜ ((i : ℕ) → shown (now (row .exit)) i ≡ turned (shown (now (row .entry)) i) (shown (now (inverted .entry)) i) present (ltb i (min count 512))) ⌝ }
+{
+    if present {
+        row.flip(inverted);
+        row.retain(&Row::ones(count));
+    } else {
+        row.clear(inverted);
     }
 }
