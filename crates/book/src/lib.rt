@@ -1,4 +1,6 @@
 // The connection book: at most 1,024 live connections, found from either side, and kept exactly.
+#![tactic(auto)]
+
 mod advance;
 mod answer;
 mod book;

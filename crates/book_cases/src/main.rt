@@ -1,4 +1,6 @@
 // The book on examples, and held against a plain one over a long run by chance.
+#![tactic(auto)]
+
 mod cases;
 mod chance;
 mod crowd;

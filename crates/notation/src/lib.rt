@@ -1,4 +1,6 @@
 // The notation in which administrators write conditions, values and rules.
+#![tactic(auto)]
+
 mod address;
 pub mod condition;
 mod flags;

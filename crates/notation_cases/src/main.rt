@@ -1,4 +1,6 @@
 // Reads conditions, values and rules in their notation, writes them again, and prints what came of each.
+#![tactic(auto)]
+
 use fields::field::Field;
 use fields::making::{
     AddressCondition, FlagsCondition, LabelCondition, NameCondition, PortCondition,

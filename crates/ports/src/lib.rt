@@ -1,2 +1,4 @@
 // The column on ports.
+#![tactic(auto)]
+
 pub mod values;

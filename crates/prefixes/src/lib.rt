@@ -1,4 +1,6 @@
 // Columns of conditions that ask how a value begins.
+#![tactic(auto)]
+
 pub mod address;
 mod bits;
 mod compare;

@@ -1,4 +1,6 @@
 // Reads IPv4 packets in place: checks a packet once, and hands out its header, its payload and its fields.
+#![tactic(auto)]
+
 mod checks;
 mod checksum;
 mod extent;

@@ -1,4 +1,6 @@
 // Reads packets and interface names written as hex, and prints what the reader says of each.
+#![tactic(auto)]
+
 mod answer;
 mod hex;
 mod names;

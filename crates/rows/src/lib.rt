@@ -1,4 +1,6 @@
 // Rows of 512 bits, one bit for each rule of a list.
+#![tactic(auto)]
+
 mod row;
 mod word;
 

@@ -1,6 +1,8 @@
 // Reads a rule list, builds its eight columns, and prints the list with the columns' tables beside it.
 // For each value that a line `show FIELD=VALUE` names, it prints the row that the column reads, and whether
 // a plain top-down reading of the list gives the same bits.
+#![tactic(auto)]
+
 mod input;
 mod print;
 mod samples;

@@ -5,10 +5,10 @@ use Rattle.book.proofs.index.link.Goals as goal
 
 pub returns : goal.returns
 returns c =
-    let P : List ℕ → Type 0 = λ ss. FreeAt ss c.args.home c.free-slot-p.result in
+    let P : List ℕ → Type 0 = λ ss. FreeAt ss c.args.home c.free_slot-p.result in
     record {
       later =
-          linked_set (vec_items c.args.slots.now) c.args.home c.args.number c.free-slot-p.result
-          (omega arith) (subst P c.as-slice.ensures.value c.free-slot-p.ensures.result);
+          linked_set (vec_items c.args.slots.now) c.args.home c.args.number c.free_slot-p.result
+          (omega arith) (subst P c.as_slice.ensures.value c.free_slot-p.ensures.result);
       len = c.requires.0;
     }

@@ -16,7 +16,7 @@ from_flow key ss es q h j e = let P : ℕ → Type 0 = λ x. (k : ℕ) → k < j
 
 pub returns-then-slot-eq0 : goal.returns-then-slot-eq0
 returns-then-slot-eq0 c =
-    let h = c.home-of-home.ensures.result in
+    let h = c.home_of-home.ensures.result in
     let P : ℕ → Type 0 = λ x. get_or c.args.slots.now (spot x c.loop-j.j) 0 ≡ 0 in
     record {
       result =
@@ -33,7 +33,7 @@ pub loop-j-preserved : goal.loop-j-preserved
 loop-j-preserved c =
     let ss = c.args.slots.now in
     let es = c.args.entries.now in
-    let P : ℕ → Type 0 = λ k. Other es c.args.flow (get_or ss (spot c.home-of-home.result k) 0) in
+    let P : ℕ → Type 0 = λ k. Other es c.args.flow (get_or ss (spot c.home_of-home.result k) 0) in
     below_more P c.loop-j.j c.loop-j.invariant (elim c.else-number-entries.branch [
       | else-number-entries-via-then-number-entries+else-same w ↦
           other_flow es c.args.flow _ c.from-number.result c.from-number.ensures c.if-slot-eq0.false _ w.if-same.ensures.result
@@ -45,5 +45,5 @@ pub returns : goal.returns
 returns c = record {
   result =
       absent_all c.args.keys c.args.slots.now c.args.entries.now c.args.flow c.loop-j.j c.requires.1
-      (from_flow c.args.keys c.args.slots.now c.args.entries.now c.args.flow _ _ c.home-of-home.ensures.result c.loop-j.invariant) (omega arith);
+      (from_flow c.args.keys c.args.slots.now c.args.entries.now c.args.flow _ _ c.home_of-home.ensures.result c.loop-j.invariant) (omega arith);
 }

@@ -13,7 +13,7 @@ returns-then-ordered c =
     let pos = c.rank-count.ensures.some in
     let w = c.rank-count.ensures.within in
     let h : c.rank-count.result - 1 < length xs = omega arith in
-    let t = tested_at (λ s. ordered p s) xs (c.rank-count.result - 1) c.index-stored-last.result c.as-slice.result.now true h c.index-stored-last.is c.as-slice.ensures c.if-ordered.ensures in
+    let t = tested_at (λ s. ordered p s) xs (c.rank-count.result - 1) c.index-stored-last.result c.as_slice.result.now true h c.index-stored-last.is c.as_slice.ensures c.if-ordered.ensures in
     (omega arith, ordered_antisym (at (strings xs) (c.rank-count.result - 1)) p (c.rank-count.ensures.low (c.rank-count.result - 1) (omega arith)) t)
 
 pub returns-else-ordered : goal.returns-else-ordered
@@ -24,5 +24,5 @@ returns-else-ordered c =
     let pos = c.rank-count.ensures.some in
     let w = c.rank-count.ensures.within in
     let h : c.rank-count.result - 1 < length xs = omega arith in
-    let f = tested_at (λ s. ordered p s) xs (c.rank-count.result - 1) c.index-stored-last.result c.as-slice.result.now false h c.index-stored-last.is c.as-slice.ensures c.if-ordered.ensures in
+    let f = tested_at (λ s. ordered p s) xs (c.rank-count.result - 1) c.index-stored-last.result c.as_slice.result.now false h c.index-stored-last.is c.as_slice.ensures c.if-ordered.ensures in
     (omega arith, fits_vacant (strings xs) p c.rank-count.result c.requires pos (omega arith) f (λ i l k. c.rank-count.ensures.high i l (omega arith)))

@@ -22,7 +22,7 @@ shared-at-requires c =
     let n = length_strings xs in
     let h : m < length xs = omega arith in
     let inv = c.loop-low.invariant in
-    let e : c.as-slice-string.result.now ≡ at (strings xs) m = c.as-slice-string.ensures ∙ read_at xs m c.index-stored-middle.result h c.index-stored-middle.is in
+    let e : c.as_slice-string.result.now ≡ at (strings xs) m = c.as_slice-string.ensures ∙ read_at xs m c.index-stored-middle.result h c.index-stored-middle.is in
     subst (λ (s : List ℕ). c.min.result ≤ common s c.args.key.now) (sym e)
     (window (strings xs) c.args.key.now c.loop-low.low c.loop-low.high m c.loop-low.below c.loop-low.above c.min.result c.requires
     inv.0.0 (omega arith) (omega arith) (omega arith) inv.3 inv.4.0 inv.4.1 (omega arith) (omega arith))
@@ -34,8 +34,8 @@ loop-low-preserved-then-precedes c =
     let n = length_strings xs in
     let h : m < length xs = omega arith in
     let inv = c.loop-low.invariant in
-    let e : c.as-slice-string.result.now ≡ at (strings xs) m = c.as-slice-string.ensures ∙ read_at xs m c.index-stored-middle.result h c.index-stored-middle.is in
-    let t = tested_at (λ s. ordered s c.args.key.now) xs m c.index-stored-middle.result c.as-slice-string.result.now true h c.index-stored-middle.is c.as-slice-string.ensures c.if-precedes.ensures in
+    let e : c.as_slice-string.result.now ≡ at (strings xs) m = c.as_slice-string.ensures ∙ read_at xs m c.index-stored-middle.result h c.index-stored-middle.is in
+    let t = tested_at (λ s. ordered s c.args.key.now) xs m c.index-stored-middle.result c.as_slice-string.result.now true h c.index-stored-middle.is c.as_slice-string.ensures c.if-precedes.ensures in
     let b : c.shared-at.result ≡ common (at (strings xs) (m + 1 - 1)) c.args.key.now =
     c.shared-at.ensures ∙ ap (λ (s : List ℕ). common s c.args.key.now) (e ∙ ap (at (strings xs)) (let q : m ≡ m + 1 - 1 = omega arith in q)) in (
       (omega arith, omega arith, inv.0.2),
@@ -52,8 +52,8 @@ loop-low-preserved c =
     let n = length_strings xs in
     let h : m < length xs = omega arith in
     let inv = c.loop-low.invariant in
-    let e : c.as-slice-string.result.now ≡ at (strings xs) m = c.as-slice-string.ensures ∙ read_at xs m c.index-stored-middle.result h c.index-stored-middle.is in
-    let f = tested_at (λ s. ordered s c.args.key.now) xs m c.index-stored-middle.result c.as-slice-string.result.now false h c.index-stored-middle.is c.as-slice-string.ensures c.if-precedes.ensures in
+    let e : c.as_slice-string.result.now ≡ at (strings xs) m = c.as_slice-string.ensures ∙ read_at xs m c.index-stored-middle.result h c.index-stored-middle.is in
+    let f = tested_at (λ s. ordered s c.args.key.now) xs m c.index-stored-middle.result c.as_slice-string.result.now false h c.index-stored-middle.is c.as_slice-string.ensures c.if-precedes.ensures in
     let b : c.shared-at.result ≡ common (at (strings xs) m) c.args.key.now = c.shared-at.ensures ∙ ap (λ (s : List ℕ). common s c.args.key.now) e in (
       (inv.0.0, omega arith, omega arith),
       inv.1,

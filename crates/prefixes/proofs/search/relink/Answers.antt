@@ -17,8 +17,8 @@ ascend-link-requires c =
       level = omega arith;
       root = nil_from_length (at (strings xs) 0) c.requires.ascending.1;
       linked = λ k l h. c.loop-i.invariant k l (omega arith);
-      covers = covers_last (strings xs) c.as-slice.result.now (i - 1) c.requires.ascending (omega arith)
-          (subst (λ (s : List ℕ). ordered (at (strings xs) (i - 1)) s ≡ true) (sym (c.as-slice.ensures ∙ read_at xs i c.index-stored-i.result c.loop-i-test.true c.index-stored-i.is))
+      covers = covers_last (strings xs) c.as_slice.result.now (i - 1) c.requires.ascending (omega arith)
+          (subst (λ (s : List ℕ). ordered (at (strings xs) (i - 1)) s ≡ true) (sym (c.as_slice.ensures ∙ read_at xs i c.index-stored-i.result c.loop-i-test.true c.index-stored-i.is))
           (ordered_total (at (strings xs) (i - 1)) (at (strings xs) i) (c.requires.ascending.2 (i - 1) i (omega arith) (omega arith))));
     }
 
@@ -27,7 +27,7 @@ loop-i-preserved c =
     let xs = c.args.stored.now in
     let i = c.loop-i.i in
     let r = c.ascend-link.result in
-    let key : c.as-slice.result.now ≡ at (strings xs) i = c.as-slice.ensures ∙ read_at xs i c.index-stored-i.result c.loop-i-test.true c.index-stored-i.is in
+    let key : c.as_slice.result.now ≡ at (strings xs) i = c.as_slice.ensures ∙ read_at xs i c.index-stored-i.result c.loop-i-test.true c.index-stored-i.is in
     linked_more (strings xs) c.loop-i.links i r (omega arith) c.loop-i.invariant (
       omega (arith, c.ascend-link.ensures.bound),
       (λ j l b. c.ascend-link.ensures.covers j (omega arith) (subst (λ (s : List ℕ). begins (at (strings xs) j) s ≡ true) (sym key) b)),

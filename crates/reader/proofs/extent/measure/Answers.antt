@@ -3,21 +3,21 @@ use Rattle.std.proofs.lemmas.Bool.Decides.{nat_tests}
 use Rattle.reader.specs.Stages.{extent_fault}
 use Rattle.reader.proofs.extent.measure.Goals as goal
 
-pub returns-then-is-truncated : goal.returns-then-is-truncated
+pub returns-then-is_truncated : goal.returns-then-is_truncated
 unfolding extent_fault
-returns-then-is-truncated c = record { result = grind (arith, nat_tests) }
+returns-then-is_truncated c = record { result = grind (arith, nat_tests) }
 
-pub returns-then-has-other-version : goal.returns-then-has-other-version
+pub returns-then-has_other_version : goal.returns-then-has_other_version
 unfolding extent_fault
-returns-then-has-other-version c = record { result = grind (arith, nat_tests) }
+returns-then-has_other_version c = record { result = grind (arith, nat_tests) }
 
-pub returns-then-has-bad-header-length : goal.returns-then-has-bad-header-length
+pub returns-then-has_bad_header_length : goal.returns-then-has_bad_header_length
 unfolding extent_fault
-returns-then-has-bad-header-length c = record { result = grind (arith, nat_tests) }
+returns-then-has_bad_header_length c = record { result = grind (arith, nat_tests) }
 
-pub returns-then-has-bad-total-length : goal.returns-then-has-bad-total-length
+pub returns-then-has_bad_total_length : goal.returns-then-has_bad_total_length
 unfolding extent_fault
-returns-then-has-bad-total-length c = record { result = grind (arith, nat_tests) }
+returns-then-has_bad_total_length c = record { result = grind (arith, nat_tests) }
 
 pub returns : goal.returns
 unfolding extent_fault

@@ -7,8 +7,8 @@ use Rattle.book.proofs.book.Book.add.Goals as goal
 when_true : {X : Type 0} (b : Bool) (x y : X) → b ≡ true → cond b x y ≡ x
 when_true b x y e = rw e
 
-pub invariant-of-self : goal.invariant-of-self
-invariant-of-self c =
+pub invariant_of-self : goal.invariant_of-self
+invariant_of-self c =
     let now = c.args.self.now in
     let es = vec_items now.entries in
     let fs = vec_items c.push.new.self in
@@ -22,10 +22,4 @@ invariant-of-self c =
     let gaps = apart_pushed es fs c.args.entry now.apart c.requires.1 (omega (arith, len, n, c.push.new.self.ok.0)) old last in
     let waiting = none_before_pushed now.earliest c.min-self.result es fs c.args.entry now.waiting (omega (arith, c.min-self.ensures)) (omega (arith, c.min-self.ensures)) (omega (arith, len, n, c.push.new.self.ok.0)) old last in
     let P : List Entry → Type 0 = λ xs. Reached now.keys (vec_items c.note-self.new.slots) xs (length xs) in
-    let all = subst P c.as-slice.ensures.value c.note-self.ensures.later.reached in (
-      omega (arith, more.capacity, now.room),
-      (
-        omega (arith, len, c.requires.0),
-        (c.note-self.ensures.len, (c.note-self.ensures.later.counted, (λ k d l. all k d (omega (arith, l)), (gaps, (waiting, tt))))),
-      ),
-    )
+    let all = subst P c.as_slice.ensures.value c.note-self.ensures.later.reached in record { room = omega (arith, more.capacity, now.room); few = omega (arith, len, c.requires.0); long = c.note-self.ensures.len; counted = c.note-self.ensures.later.counted; reached = (λ k d l. all k d (omega (arith, l))); apart = gaps; waiting = waiting }

@@ -27,26 +27,26 @@ flow_stays : (b : Bool) (y : Entry) (side : Side) (flags : Option ℕ) (t : ℕ)
 flow_stays true y side flags t = refl
 flow_stays false y side flags t = refl
 
-pub invariant-of-self : goal.invariant-of-self
-invariant-of-self c =
+pub invariant_of-self : goal.invariant_of-self
+invariant_of-self c =
     let now = c.args.self.now in
     let es = vec_items now.entries in
     let i = c.in-Some.i in
-    let y = c.index-mut.result.now in
+    let y = c.index_mut.result.now in
     let x = c.advance-outcome.new.self in
     let held = c.in-Some.ensures.result in
     let F : Entry → Flow = λ e. e.flow in
-    let same : x.flow ≡ c.args.flow = ap F c.advance-outcome.ensures.later ∙ flow_stays (erases c.args.flags) y c.args.side c.args.flags c.args.clock ∙ ap F c.index-mut.ensures.value ∙ held.1 y in
+    let same : x.flow ≡ c.args.flow = ap F c.advance-outcome.ensures.later ∙ flow_stays (erases c.args.flags) y c.args.side c.args.flags c.args.clock ∙ ap F c.index_mut.ensures.value ∙ held.1 y in
     let read : c.index-2.result.now ≡ x = c.index-2.ensures ∙ get_or-set_same es i x c.index-2.result.now held.0 in
     let D : Entry → Type 0 = λ e. c.min-self.result ≤ e.deadline in
     let low = subst D read (omega (arith, c.min-self.ensures)) in
     let stays : Held es x.flow i = (held.0, λ d. held.1 d ∙ sym same) in
-    (now.room, (now.few, (now.long, (now.counted, (reached_set es i x stays now.keys (vec_items now.slots) (vec_len now.entries) now.reached, (apart_set es i x stays now.apart, (none_before_set now.earliest c.min-self.result es i x held.0 now.waiting (omega (arith, c.min-self.ensures)) low, tt)))))))
+    record { room = now.room; few = now.few; long = now.long; counted = now.counted; reached = reached_set es i x stays now.keys (vec_items now.slots) (vec_len now.entries) now.reached; apart = apart_set es i x stays now.apart; waiting = none_before_set now.earliest c.min-self.result es i x held.0 now.waiting (omega (arith, c.min-self.ensures)) low }
 
-pub returns-in-default : goal.returns-in-default
-returns-in-default c = record {
+pub returns-in_default : goal.returns-in_default
+returns-in_default c = record {
   result =
-      fit_none c.args.flow c.args.side c.args.flags c.args.clock (vec_items c.args.self.now.entries) 0 c.in-default.ensures.result;
+      fit_none c.args.flow c.args.side c.args.flags c.args.clock (vec_items c.args.self.now.entries) 0 c.in_default.ensures.result;
 }
 
 pub returns-then-index-from : goal.returns-then-index-from
@@ -62,15 +62,15 @@ returns-in-Renewed c =
     let es = vec_items c.args.self.now.entries in
     let i = c.in-Some.i in
     let t = c.args.clock in
-    let y = c.index-mut.result.now in
+    let y = c.index_mut.result.now in
     let held = c.in-Some.ensures.result in
     let out = c.in-Renewed.ensures in
     let stays = renewed_keeps (erases c.args.flags) out.result in
-    let l : t < y.deadline = later_read es i c.index.result.now y t held.0 c.index.ensures c.index-mut.ensures.value (omega (arith, c.if-index-from.false, c.from.ensures)) in
+    let l : t < y.deadline = later_read es i c.index.result.now y t held.0 c.index.ensures c.index_mut.ensures.value (omega (arith, c.if-index-from.false, c.from.ensures)) in
     let P : Outcome → Type 0 = λ o. Fitted c.args.flow c.args.side c.args.flags t es (set es i c.advance-outcome.new.self) (Some o) (find t c.args.flow es) in
     record {
       result = subst P (sym c.in-Renewed.is)
-          (fit_renewed c.args.flow c.args.side c.args.flags t es i c.args.self.now.apart held y c.index-mut.ensures.value l
+          (fit_renewed c.args.flow c.args.side c.args.flags t es i c.args.self.now.apart held y c.index_mut.ensures.value l
           c.advance-outcome.new.self stays (out.later ∙ when_false _ _ _ stays));
     }
 
@@ -79,15 +79,15 @@ returns-in-Erased c =
     let es = vec_items c.args.self.now.entries in
     let i = c.in-Some.i in
     let t = c.args.clock in
-    let y = c.index-mut.result.now in
+    let y = c.index_mut.result.now in
     let held = c.in-Some.ensures.result in
     let out = c.in-Erased.ensures in
     let ends = erased_ends (erases c.args.flags) out.result in
-    let l : t < y.deadline = later_read es i c.index.result.now y t held.0 c.index.ensures c.index-mut.ensures.value (omega (arith, c.if-index-from.false, c.from.ensures)) in
-    let P : Outcome → Type 0 = λ o. Fitted c.args.flow c.args.side c.args.flags t es (swap_remove (set es i c.advance-outcome.new.self) i c.take-out.result) (Some o) (find t c.args.flow es) in
+    let l : t < y.deadline = later_read es i c.index.result.now y t held.0 c.index.ensures c.index_mut.ensures.value (omega (arith, c.if-index-from.false, c.from.ensures)) in
+    let P : Outcome → Type 0 = λ o. Fitted c.args.flow c.args.side c.args.flags t es (swap_remove (set es i c.advance-outcome.new.self) i c.take_out.result) (Some o) (find t c.args.flow es) in
     let Q : List Entry → Type 0 = λ xs. Fitted c.args.flow c.args.side c.args.flags t es xs (Some c.advance-outcome.result) (find t c.args.flow es) in
     record {
-      result = subst Q (sym c.take-out.ensures.later) (subst P (sym c.in-Erased.is)
-          (fit_erased c.args.flow c.args.side c.args.flags t es i c.args.self.now.apart held y c.index-mut.ensures.value l
-          c.advance-outcome.new.self c.take-out.result ends (out.later ∙ when_true _ _ _ ends)));
+      result = subst Q (sym c.take_out.ensures.later) (subst P (sym c.in-Erased.is)
+          (fit_erased c.args.flow c.args.side c.args.flags t es i c.args.self.now.apart held y c.index_mut.ensures.value l
+          c.advance-outcome.new.self c.take_out.result ends (out.later ∙ when_true _ _ _ ends)));
     }

@@ -5,11 +5,11 @@ use Rattle.book.proofs.book.Book.create.Goals as goal
 
 pub returns : goal.returns
 returns c =
-    let made = c.if-not-make-room.ensures.result in
+    let made = c.if-not-make_room.ensures.result in
     let t = c.args.clock in
     let x = c.args.entry in
     let es = vec_items c.args.self.now.entries in
-    let fs = vec_items c.make-room.new.self.entries in
+    let fs = vec_items c.make_room.new.self.entries in
     record {
       result = record {
         fewer = made.fewer;

@@ -8,5 +8,5 @@ returns c = record {
   result = λ m same.
       let es = vec_items c.args.self.now.entries in
       let p = c.args.passage.now in
-      c.find-label.ensures.result ∙ ap (label_for p.kind) (sym (fit_alike p c.args.clock es m same c.args.self.now.apart));
+      c.find_label.ensures.result ∙ ap (label_for p.kind) (sym (fit_alike p c.args.clock es m same c.args.self.now.apart));
 }

@@ -5,14 +5,14 @@ use Rattle.book.proofs.Edits.{same_set, same_pushed}
 use Rattle.book.proofs.Orders.{apart_set, reached_set, none_before_set}
 use Rattle.book.proofs.book.Book.put.Goals as goal
 
-pub invariant-of-self : goal.invariant-of-self
-invariant-of-self c =
+pub invariant_of-self : goal.invariant_of-self
+invariant_of-self c =
     let now = c.args.self.now in
     let es = vec_items now.entries in
     let i = c.in-Some.i in
     let x = c.args.entry in
     let held = c.in-Some.ensures.result in
-    (now.room, (now.few, (now.long, (now.counted, (reached_set es i x held now.keys (vec_items now.slots) (vec_len now.entries) now.reached, (apart_set es i x held now.apart, (none_before_set now.earliest c.min-self.result es i x held.0 now.waiting (omega (arith, c.min-self.ensures)) (omega (arith, c.min-self.ensures)), tt)))))))
+    record { room = now.room; few = now.few; long = now.long; counted = now.counted; reached = reached_set es i x held now.keys (vec_items now.slots) (vec_len now.entries) now.reached; apart = apart_set es i x held now.apart; waiting = none_before_set now.earliest c.min-self.result es i x held.0 now.waiting (omega (arith, c.min-self.ensures)) (omega (arith, c.min-self.ensures)) }
 
 pub returns-in-Some : goal.returns-in-Some
 returns-in-Some c =

@@ -6,11 +6,11 @@ use Rattle.book.proofs.book.Book.step.Goals as goal
 pub returns : goal.returns
 returns c =
     let es = vec_items c.args.self.now.entries in
-    let fs = vec_items c.take-step.new.self.entries in
+    let fs = vec_items c.take_step.new.self.entries in
     let p = c.args.passage.now in
     let t = c.args.clock in
     let apart = c.args.self.now.apart in
     record {
-      result = λ m same. (any_order p t es m same fs c.take-step.result apart c.take-step.ensures.result).0;
-      later = λ m same u l. later t u fs (entries_at p t m) l (any_order p t es m same fs c.take-step.result apart c.take-step.ensures.result).1;
+      result = λ m same. (any_order p t es m same fs c.take_step.result apart c.take_step.ensures.result).0;
+      later = λ m same u l. later t u fs (entries_at p t m) l (any_order p t es m same fs c.take_step.result apart c.take_step.ensures.result).1;
     }

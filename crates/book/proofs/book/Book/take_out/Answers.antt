@@ -5,12 +5,12 @@ use Rattle.book.proofs.Walk.{reached_at}
 use Rattle.book.proofs.Orders.{apart_swapped, none_before_swapped}
 use Rattle.book.proofs.book.Book.take_out.Goals as goal
 
-pub invariant-of-self : goal.invariant-of-self
-invariant-of-self c =
+pub invariant_of-self : goal.invariant_of-self
+invariant_of-self c =
     let now = c.args.self.now in
-    let left = c.swap-remove-entry.ensures in
+    let left = c.swap_remove-entry.ensures in
     let es = vec_items now.entries in
-    let fs = vec_items c.swap-remove-entry.new.self in
+    let fs = vec_items c.swap_remove-entry.new.self in
     let len : length fs + 1 ≡ length es = omega (arith, left.len) in
     let moved : (d : Entry) → c.args.number + 1 < length es → get_or fs c.args.number d ≡ get_or es (length es - 1) d = (λ d w.
     let n : vec_len now.entries ≡ length es = omega (arith, now.entries.ok.0) in
@@ -20,20 +20,14 @@ invariant-of-self c =
     let gaps = apart_swapped es fs c.args.number now.apart len moved kept in
     let waiting = none_before_swapped es fs c.args.number now.apart len moved kept now.earliest now.waiting in
     let P : List Entry → Type 0 = λ xs. Reached now.keys (vec_items c.note-self.new.slots) xs (length xs) in
-    let all = subst P c.as-slice.ensures.value c.note-self.ensures.later.reached in (
-      omega (arith, left.capacity, now.room),
-      (
-        omega (arith, left.len, now.few),
-        (c.note-self.ensures.len, (c.note-self.ensures.later.counted, (λ k d l. all k d (omega (arith, l)), (gaps, (waiting, tt))))),
-      ),
-    )
+    let all = subst P c.as_slice.ensures.value c.note-self.ensures.later.reached in record { room = omega (arith, left.capacity, now.room); few = omega (arith, left.len, now.few); long = c.note-self.ensures.len; counted = c.note-self.ensures.later.counted; reached = (λ k d l. all k d (omega (arith, l))); apart = gaps; waiting = waiting }
 
-pub invariant-of-self-else-number-len : goal.invariant-of-self-else-number-len
-invariant-of-self-else-number-len c =
+pub invariant_of-self-else-number-len : goal.invariant_of-self-else-number-len
+invariant_of-self-else-number-len c =
     let now = c.args.self.now in
-    let left = c.swap-remove-entry.ensures in
+    let left = c.swap_remove-entry.ensures in
     let es = vec_items now.entries in
-    let fs = vec_items c.swap-remove-entry.new.self in
+    let fs = vec_items c.swap_remove-entry.new.self in
     let len : length fs + 1 ≡ length es = omega (arith, left.len) in
     let moved : (d : Entry) → c.args.number + 1 < length es → get_or fs c.args.number d ≡ get_or es (length es - 1) d = (λ d w.
     let n : vec_len now.entries ≡ length es = omega (arith, now.entries.ok.0) in
@@ -42,8 +36,8 @@ invariant-of-self-else-number-len c =
     let kept : (k : ℕ) (d : Entry) → (k ≡ c.args.number → ⊥) → k + 1 < length es → get_or fs k d ≡ get_or es k d = (λ k d n w. left.by_index.1 k d n (omega arith)) in
     let gaps = apart_swapped es fs c.args.number now.apart len moved kept in
     let waiting = none_before_swapped es fs c.args.number now.apart len moved kept now.earliest now.waiting in
-    let all : Reached now.keys (vec_items now.slots) fs (vec_len c.swap-remove-entry.new.self) = (λ k d l.
+    let all : Reached now.keys (vec_items now.slots) fs (vec_len c.swap_remove-entry.new.self) = (λ k d l.
     let w : k + 1 < vec_len now.entries = omega (arith, left.len) in
     let ne : (k ≡ c.args.number → ⊥) = (λ z. omega (arith, left.len, c.if-number-len.false, c.len.ensures)) in
     reached_at now.keys (vec_items now.slots) es fs k d (ap (λ (e : Entry). e.flow) (left.by_index.1 k d ne w)) (now.reached k d (omega arith))) in
-    (omega (arith, left.capacity, now.room), (omega (arith, left.len, now.few), (now.long, (now.counted, (all, (gaps, (waiting, tt)))))))
+    record { room = omega (arith, left.capacity, now.room); few = omega (arith, left.len, now.few); long = now.long; counted = now.counted; reached = all; apart = gaps; waiting = waiting }

@@ -16,13 +16,13 @@ returns g c =
     let xs : List g.row.K.Denot = vec_items s.conditions in
     let ys : List g.row.K.Denot = vec_items c.insert-2.new.self in
     let rows : List Row = vec_items s.rows in
-    let new : List Row = c.insert-each.new.rows in
+    let new : List Row = c.insert_each.new.rows in
     let x = c.args.condition in
     let p : ℕ = c.args.position - 1 in
-    let admits = g.row.K-Condition.admits in
+    let admits = g.K.Condition.admits in
     let decoded = g.V.Coded.decoded in
     let n : vec_len s.conditions ≡ length xs = omega (arith, s.conditions.ok.0) in
-    let answer = c.in-ok-insert-check.ensures.result ∙ ap (insert_answer c.args.position) (c.len.ensures ∙ n) in
+    let answer = c.in_ok-insert_check.ensures.result ∙ ap (insert_answer c.args.position) (c.len.ensures ∙ n) in
     let q = insert_ok c.args.position (length xs) answer in
     let low = q.0 in
     let high = q.1 in
@@ -30,7 +30,7 @@ returns g c =
     let within : p ≤ length xs = omega arith in
     let ok : is_ok c.insert-2.result ≡ true = c.insert-2.ensures.succeeds (omega arith) in
     let listed : ys ≡ insert xs p x = c.insert-2.ensures.items ∙ cond-true (is_ok c.insert-2.result) _ _ ok in
-    let kept : length new ≡ length rows = c.insert-each.auto.rows ∙ ap length c.deref-mut.ensures.value in record {
+    let kept : length new ≡ length rows = c.insert_each.auto.rows ∙ ap length c.deref_mut.ensures.value in record {
       result = answer;
       later = listed ∙ sym (insert_after_ok c.args.position x xs low high few);
       codes = refl;
@@ -38,8 +38,8 @@ returns g c =
           (subst (TableShows new (λ k j. admits k (Some (decoded j)))) (sym listed)
           (table_inserted (λ k j. admits k (Some (decoded j))) xs p x rows new within few kept c.requires.told
           (subst (λ (rs : List Row). (k : ℕ) (d : Row) → k < length rs → Put p (admits x (Some (decoded k))) (get_or rs k d) (get_or new k d))
-          c.deref-mut.ensures.value c.insert-each.ensures)));
+          c.deref_mut.ensures.value c.insert_each.ensures)));
       untold = subst (Shows c.insert.new.self (λ k. admits k None)) (sym listed)
           (shows_inserted (λ k. admits k None) xs p x s.absent c.insert.new.self within few c.requires.untold
-          (subst (λ (b : Bool). Put p b s.absent c.insert.new.self) c.holds-on.ensures.result c.insert.ensures));
+          (subst (λ (b : Bool). Put p b s.absent c.insert.new.self) c.holds_on.ensures.result c.insert.ensures));
     }

@@ -15,18 +15,18 @@ returns g c =
     let xs : List g.row.K.Denot = vec_items s.conditions in
     let ys : List g.row.K.Denot = vec_items c.remove-2.new.self in
     let rows : List Row = vec_items s.rows in
-    let new : List Row = c.remove-each.new.rows in
+    let new : List Row = c.remove_each.new.rows in
     let p : ℕ = c.args.position - 1 in
-    let admits = g.row.K-Condition.admits in
+    let admits = g.K.Condition.admits in
     let decoded = g.V.Coded.decoded in
     let n : vec_len s.conditions ≡ length xs = omega (arith, s.conditions.ok.0) in
-    let answer = c.in-ok-remove-check.ensures.result ∙ ap (remove_answer c.args.position) (c.len.ensures ∙ n) in
+    let answer = c.in_ok-remove_check.ensures.result ∙ ap (remove_answer c.args.position) (c.len.ensures ∙ n) in
     let q = remove_ok c.args.position (length xs) answer in
     let low = q.0 in
     let high = q.1 in
     let within : p < length xs = omega arith in
     let listed : ys ≡ remove xs p = c.remove-2.ensures.items in
-    let kept : length new ≡ length rows = c.remove-each.auto.rows ∙ ap length c.deref-mut.ensures.value in record {
+    let kept : length new ≡ length rows = c.remove_each.auto.rows ∙ ap length c.deref_mut.ensures.value in record {
       result = answer;
       later = listed ∙ sym (remove_after_ok c.args.position xs low high);
       codes = refl;
@@ -34,7 +34,7 @@ returns g c =
           (subst (TableShows new (λ k j. admits k (Some (decoded j)))) (sym listed)
           (table_removed (λ k j. admits k (Some (decoded j))) xs p rows new within kept c.requires.told
           (subst (λ (rs : List Row). (k : ℕ) (d : Row) → k < length rs → Out p (get_or rs k d) (get_or new k d))
-          c.deref-mut.ensures.value c.remove-each.ensures.later)));
+          c.deref_mut.ensures.value c.remove_each.ensures.later)));
       untold = subst (Shows c.remove.new.self (λ k. admits k None)) (sym listed)
           (shows_removed (λ k. admits k None) xs p s.absent c.remove.new.self within c.requires.untold c.remove.ensures);
     }

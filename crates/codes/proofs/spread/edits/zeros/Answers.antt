@@ -5,8 +5,8 @@ use Rattle.codes.proofs.spread.edits.zeros.Goals as goal
 
 pub loop-preserved : goal.loop-preserved
 loop-preserved c =
-    let ok : is_ok c.push.result ≡ true = ap is_ok c.in-ok-push.was in (
-      omega (arith, c.in-ok-push.ensures.len, c.loop.invariant.0),
+    let ok : is_ok c.push.result ≡ true = ap is_ok c.in_ok-push.was in (
+      omega (arith, c.in_ok-push.ensures.len, c.loop.invariant.0),
       λ k d i h. ⊎_elim
           (λ e. ap (λ x. shown x i) (ap (λ n. get_or (vec_items c.push.new.self) n d) (e ∙ sym c.loop.invariant.0) ∙ c.push.ensures.by_index.1 d ok)
           ∙ c.zeros.ensures i)

@@ -14,7 +14,7 @@ returns-in-Ok g c =
       later = insert_turned p c.args.condition.condition c.args.condition.inverted xs (g.C.Column.listed c.insert.new.self) was
           (shown c.insert-in-Ok.new.self) c.in-Ok.ensures.result
           (c.in-Ok.ensures.later ∙ ap (λ k. insert_after p k xs) c.condition.ensures.result)
-          (λ i. c.insert-in-Ok.ensures i ∙ ap (λ b. cond (ltb i 512) (put_in was (p - 1) b i) false) c.is-inverted.ensures.result);
+          (λ i. c.insert-in-Ok.ensures i ∙ ap (λ b. cond (ltb i 512) (put_in was (p - 1) b i) false) c.is_inverted.ensures.result);
     }
 
 pub returns-in-Err : goal.returns-in-Err

@@ -9,12 +9,12 @@ pub loop-condition-preserved : goal.loop-condition-preserved
 loop-condition-preserved c =
     below_more _ _ c.loop-condition.invariant
     (ap (λ x. names x c.args.port) (get_or_default c.args.conditions.now c.loop-condition.condition-index Any _ c.loop-condition-test.true)
-    ∙ sym c.if-names-port.ensures)
+    ∙ sym c.if-names_port.ensures)
 
-pub returns-then-names-port : goal.returns-then-names-port
-returns-then-names-port c =
+pub returns-then-names_port : goal.returns-then-names_port
+returns-then-names_port c =
     sym (some_at (λ x. names x c.args.port) c.args.conditions.now c.loop-condition.condition-index _
-    c.loop-condition-test.true (sym c.if-names-port.ensures))
+    c.loop-condition-test.true (sym c.if-names_port.ensures))
 
 pub returns : goal.returns
 returns c =

@@ -5,8 +5,8 @@ use Rattle.prefixes.specs.Indexed.{kept}
 use Rattle.prefixes.proofs.IndexLaws.{padded_of, stretched_of, stretched_same}
 use Rattle.prefixes.proofs.indexed.IndexedSet.longest_number.Goals as goal
 
-pub look-up-requires : goal.look-up-requires
-look-up-requires c =
+pub look_up-requires : goal.look_up-requires
+look_up-requires c =
     let s = c.args.self.now in
     record {
       starts = omega arith;
@@ -15,16 +15,16 @@ look-up-requires c =
       first = omega (arith, s.some.2);
       last = omega arith;
       padded = padded_of s.starts s.count s.padded;
-      stretched = stretched_same (kept s) _ s.starts s.answers s.count c.as-slice.ensures (stretched_of (kept s) s.starts s.answers s.count s.stretched);
+      stretched = stretched_same (kept s) _ s.starts s.answers s.count c.as_slice.ensures (stretched_of (kept s) s.starts s.answers s.count s.stretched);
     }
 
 pub returns-then-number-self : goal.returns-then-number-self
 returns-then-number-self c =
     let e : c.from-number.result ≡ c.args.key = omega arith in
-    subst (λ (ss : List (List ℕ)). Longest ss (bits_of 32 c.args.key) c.look-up.result) c.as-slice.ensures
-    (subst (λ (k : ℕ). Longest (strings c.as-slice.result.now) (bits_of 32 k) c.look-up.result) e c.look-up.ensures)
+    subst (λ (ss : List (List ℕ)). Longest ss (bits_of 32 c.args.key) c.look_up.result) c.as_slice.ensures
+    (subst (λ (k : ℕ). Longest (strings c.as_slice.result.now) (bits_of 32 k) c.look_up.result) e c.look_up.ensures)
 
 pub returns-else-number-self : goal.returns-else-number-self
 returns-else-number-self c =
     let e : c.from.result ≡ c.args.key = omega arith in
-    subst (λ (s : List ℕ). Longest (kept c.args.self.now) s c.longest.result) (c.spell-bits.ensures ∙ ap (bits_of 32) e) c.longest.ensures
+    subst (λ (s : List ℕ). Longest (kept c.args.self.now) s c.longest.result) (c.spell_bits.ensures ∙ ap (bits_of 32) e) c.longest.ensures

@@ -7,14 +7,14 @@ use Rattle.prefixes.proofs.indexed.IndexedSet.new.Goals as goal
 
 pub divide-count-requires : goal.divide-count-requires
 divide-count-requires c =
-    let t = c.in-ok-set.set in
-    let one : held t ≡ [] ∷ [] = c.in-ok-set.ensures in
-    let e = c.as-slice.ensures in
-    let n = length_strings c.as-slice.result.now in
+    let t = c.in_ok-set.set in
+    let one : held t ≡ [] ∷ [] = c.in_ok-set.ensures in
+    let e = c.as_slice.ensures in
+    let n = length_strings c.as_slice.result.now in
     let m = length_strings (vec_items t.stored) in
-    let d : length c.as-slice.result.now ≡ length (vec_items t.stored) = omega (arith, ap length e) in
-    let lows : vec_items c.push-reserved.new.self ≡ 0 ∷ [] = c.push-reserved.ensures.items ∙ ap (λ (l : List ℕ). l ++ 0 ∷ []) c.in-ok-lows.ensures.items in
-    let pasts : vec_items c.push-reserved-2.new.self ≡ 4294967296 ∷ [] = c.push-reserved-2.ensures.items ∙ ap (λ (l : List ℕ). l ++ 4294967296 ∷ []) c.in-ok-pasts.ensures.items in
+    let d : length c.as_slice.result.now ≡ length (vec_items t.stored) = omega (arith, ap length e) in
+    let lows : vec_items c.push_reserved.new.self ≡ 0 ∷ [] = c.push_reserved.ensures.items ∙ ap (λ (l : List ℕ). l ++ 0 ∷ []) c.in_ok-lows.ensures.items in
+    let pasts : vec_items c.push_reserved-2.new.self ≡ 4294967296 ∷ [] = c.push_reserved-2.ensures.items ∙ ap (λ (l : List ℕ). l ++ 4294967296 ∷ []) c.in_ok-pasts.ensures.items in
     record {
       ascending = ascending_at (held t) _ e (ascending_of (held t) t.ascending);
       lows = c.deref.ensures.value ∙ (lows ∙ ap (map (low 32)) (sym (e ∙ one)));
@@ -25,29 +25,11 @@ divide-count-requires c =
       matched = omega arith;
     }
 
-pub invariant-of-result : goal.invariant-of-result
-invariant-of-result c =
-    let t = c.in-ok-set.set in
-    let one : held t ≡ [] ∷ [] = c.in-ok-set.ensures in
-    let a = c.in-ok-lows.ensures in
-    let b = c.in-ok-pasts.ensures in
-    let lows : vec_items c.push-reserved.new.self ≡ 0 ∷ [] = c.push-reserved.ensures.items ∙ ap (λ (l : List ℕ). l ++ 0 ∷ []) a.items in
-    let pasts : vec_items c.push-reserved-2.new.self ≡ 4294967296 ∷ [] = c.push-reserved-2.ensures.items ∙ ap (λ (l : List ℕ). l ++ 4294967296 ∷ []) b.items in (
-      lows ∙ ap (map (low 32)) (sym one),
-      (
-        pasts ∙ ap (map (past 32)) (sym one),
-        (
-          (omega (arith, c.push-reserved.ensures.capacity, a.capacity), omega (arith, c.push-reserved-2.ensures.capacity, b.capacity)),
-          (
-            (c.divide-count.ensures.some, omega (arith, c.divide-count.ensures.within), c.divide-count.ensures.first),
-            (
-              ∣ c.divide-count.ensures.padded ∣₁,
-              (
-                ∣ stretched_same _ (held t) c.divide-count.new.starts c.divide-count.new.answers c.divide-count.result (sym c.as-slice.ensures) c.divide-count.ensures.stretched ∣₁,
-                tt,
-              ),
-            ),
-          ),
-        ),
-      ),
-    )
+pub invariant_of-result : goal.invariant_of-result
+invariant_of-result c =
+    let t = c.in_ok-set.set in
+    let one : held t ≡ [] ∷ [] = c.in_ok-set.ensures in
+    let a = c.in_ok-lows.ensures in
+    let b = c.in_ok-pasts.ensures in
+    let lows : vec_items c.push_reserved.new.self ≡ 0 ∷ [] = c.push_reserved.ensures.items ∙ ap (λ (l : List ℕ). l ++ 0 ∷ []) a.items in
+    let pasts : vec_items c.push_reserved-2.new.self ≡ 4294967296 ∷ [] = c.push_reserved-2.ensures.items ∙ ap (λ (l : List ℕ). l ++ 4294967296 ∷ []) b.items in record { begun = lows ∙ ap (map (low 32)) (sym one); ended = pasts ∙ ap (map (past 32)) (sym one); room = (omega (arith, c.push_reserved.ensures.capacity, a.capacity), omega (arith, c.push_reserved-2.ensures.capacity, b.capacity)); some = (c.divide-count.ensures.some, omega (arith, c.divide-count.ensures.within), c.divide-count.ensures.first); padded = ∣ c.divide-count.ensures.padded ∣₁; stretched = ∣ stretched_same _ (held t) c.divide-count.new.starts c.divide-count.new.answers c.divide-count.result (sym c.as_slice.ensures) c.divide-count.ensures.stretched ∣₁ }

@@ -14,16 +14,13 @@ use Rattle.prefixes.proofs.keyed.KeyedRows.forget.Goals.{else-at-gt0-via-then-at
 renamed : (ss : List (List ℕ)) (f g : Option (List ℕ)) (fs : Fronts) → f ≡ g → StoresWith ss f fs → StoresWith ss g fs
 renamed ss f g fs e stores = subst (λ (x : Option (List ℕ)). StoresWith ss x fs) e stores
 
-pub invariant-of-self : goal.invariant-of-self
-invariant-of-self c =
+pub invariant_of-self : goal.invariant_of-self
+invariant_of-self c =
     let s = c.args.self.now in
     let j = c.in-Stored.at in
     let h : j < length (keys_of s) = c.in-Stored.ensures.0 in
     let a = length-remove (rows_of s) j (omega (arith, s.level)) in
-    let b = length-remove (keys_of s) j h in (
-      omega (arith, ap length c.remove.ensures.items, ap length c.take-out.ensures, s.level),
-      (omega (arith, c.remove.ensures.capacity, s.room), tt),
-    )
+    let b = length-remove (keys_of s) j h in record { level = omega (arith, ap length c.remove.ensures.items, ap length c.take_out.ensures, s.level); room = omega (arith, c.remove.ensures.capacity, s.room) }
 
 pub returns-then-not-serves : goal.returns-then-not-serves
 returns-then-not-serves c =
@@ -32,10 +29,10 @@ returns-then-not-serves c =
     let h : j < length (keys_of s) = c.in-Stored.ensures.0 in
     let e : option_map spelled c.args.front.now ≡ Some (at (keys_of s) j) = ap (option_map spelled) c.in-Some.is ∙ ap Some (sym c.in-Stored.ensures.1) in
     record {
-      told = told_taken (keys_of s) _ (rows_of s) _ j s.level h c.take-out.ensures c.remove.ensures.items;
+      told = told_taken (keys_of s) _ (rows_of s) _ j s.level h c.take_out.ensures c.remove.ensures.items;
       stored = λ fs told stores.
           let with_it = renamed (keys_of s) _ (Some (at (keys_of s) j)) fs e stores in
-          subst (λ (ks : List (List ℕ)). Stores ks fs) (sym c.take-out.ensures)
+          subst (λ (ks : List (List ℕ)). Stores ks fs) (sym c.take_out.ensures)
           (stores_removed (keys_of s) j fs (ascending_of (keys_of s) s.set.set.ascending) h (sym (c.serves.ensures fs told with_it) ∙ c.if-not-serves.true) with_it);
     }
 
@@ -59,12 +56,12 @@ returns-else-at-gt0 c =
       ];
     }
 
-pub returns-in-default-locate : goal.returns-in-default-locate
-returns-in-default-locate c =
+pub returns-in_default-locate : goal.returns-in_default-locate
+returns-in_default-locate c =
     let s = c.args.self.now in
     let p = spelled c.in-Some.prefix in
     record {
       told = λ fs told. told;
-      stored = λ fs told stores. stores_vacant (keys_of s) p c.in-default-locate.field-0 fs c.in-default-locate.ensures.1
+      stored = λ fs told stores. stores_vacant (keys_of s) p c.in_default-locate.field-0 fs c.in_default-locate.ensures.1
           (renamed (keys_of s) _ (Some p) fs (ap (option_map spelled) c.in-Some.is) stores);
     }

@@ -8,18 +8,15 @@ use Rattle.prefixes.specs.Spelled.{spelled}
 use Rattle.prefixes.proofs.FrontLaws.{told_given, has_inserted, has_already}
 use Rattle.prefixes.proofs.keyed.KeyedRows.give.Goals as goal
 
-pub invariant-of-self : goal.invariant-of-self
-invariant-of-self c =
+pub invariant_of-self : goal.invariant_of-self
+invariant_of-self c =
     let s = c.args.self.now in
     let m = c.in-Vacant.at in
     let ok : is_ok c.insert.result ≡ true = c.insert.ensures.succeeds (omega (arith, s.rows.ok.0, s.room, s.level)) in
     let items = c.insert.ensures.items ∙ cond-true (is_ok c.insert.result) _ _ ok in
     let h : m ≤ length (keys_of s) = c.in-Vacant.ensures.0 in
     let a = length-insert (rows_of s) m c.index-row.result.now (omega (arith, s.level)) in
-    let b = length-insert (keys_of s) m (spelled c.in-Some.prefix) h in (
-      omega (arith, ap length items, ap length c.put.ensures, s.level),
-      (omega (arith, c.insert.ensures.capacity, s.room), tt),
-    )
+    let b = length-insert (keys_of s) m (spelled c.in-Some.prefix) h in record { level = omega (arith, ap length items, ap length c.put.ensures, s.level); room = omega (arith, c.insert.ensures.capacity, s.room) }
 
 pub returns-in-Vacant : goal.returns-in-Vacant
 returns-in-Vacant c =
@@ -35,12 +32,12 @@ returns-in-Vacant c =
           ∙ ap (λ f. names f q || has (keys_of s) q) (sym (ap (option_map spelled) c.in-Some.is));
     }
 
-pub returns-in-default-locate : goal.returns-in-default-locate
-returns-in-default-locate c =
+pub returns-in_default-locate : goal.returns-in_default-locate
+returns-in_default-locate c =
     let s = c.args.self.now in
     let p = spelled c.in-Some.prefix in
     record {
       told = λ fs told stores. told;
-      stored = λ q. has_already (keys_of s) p c.in-default-locate.field-0 c.in-default-locate.ensures.0 c.in-default-locate.ensures.1 q
+      stored = λ q. has_already (keys_of s) p c.in_default-locate.field-0 c.in_default-locate.ensures.0 c.in_default-locate.ensures.1 q
           ∙ ap (λ f. names f q || has (keys_of s) q) (sym (ap (option_map spelled) c.in-Some.is));
     }

@@ -12,31 +12,28 @@ use Rattle.prefixes.specs.Stored.{strings, at}
 use Rattle.prefixes.proofs.StoredLaws.{length_strings}
 use Rattle.prefixes.proofs.keyed.KeyedRows.insert.Goals as goal
 
-pub insert-each-requires : goal.insert-each-requires
-insert-each-requires c =
+pub insert_each-requires : goal.insert_each-requires
+insert_each-requires c =
     let s = c.args.self.now in
-    omega (arith, s.level, ap length c.deref-mut.ensures.value, ap length c.as-slice.ensures, length_strings c.as-slice.result.now)
+    omega (arith, s.level, ap length c.deref_mut.ensures.value, ap length c.as_slice.ensures, length_strings c.as_slice.result.now)
 
-pub invariant-of-self : goal.invariant-of-self
-invariant-of-self c =
+pub invariant_of-self : goal.invariant_of-self
+invariant_of-self c =
     let s = c.args.self.now in
-    let new = c.insert-each.new.rows in
-    let n = c.insert-each.auto.rows ∙ ap length c.deref-mut.ensures.value in (
-      ap length (with_items_is s.rows new (omega (arith, s.rows.ok.0))) ∙ n ∙ s.level,
-      (s.room, tt),
-    )
+    let new = c.insert_each.new.rows in
+    let n = c.insert_each.auto.rows ∙ ap length c.deref_mut.ensures.value in record { level = ap length (with_items_is s.rows new (omega (arith, s.rows.ok.0))) ∙ n ∙ s.level; room = s.room }
 
 pub returns : goal.returns
 returns c =
     let s = c.args.self.now in
-    let new = c.insert-each.new.rows in
+    let new = c.insert_each.new.rows in
     let p = c.args.place in
     let f = option_map spelled c.args.front.now in
-    let n = c.insert-each.auto.rows ∙ ap length c.deref-mut.ensures.value in
+    let n = c.insert_each.auto.rows ∙ ap length c.deref_mut.ensures.value in
     let put : (k : ℕ) (d : Row) → k < length (rows_of s) → Put p (covers f (at (keys_of s) k)) (get_or (rows_of s) k d) (get_or new k d) =
-    subst (λ (ss : List (List ℕ)). (k : ℕ) (d : Row) → k < length (rows_of s) → Put p (covers f (at ss k)) (get_or (rows_of s) k d) (get_or new k d)) c.as-slice.ensures
-    (subst (λ (rs : List Row). (k : ℕ) (d : Row) → k < length rs → Put p (covers f (at (strings c.as-slice.result.now) k)) (get_or rs k d) (get_or new k d))
-    c.deref-mut.ensures.value c.insert-each.ensures) in
+    subst (λ (ss : List (List ℕ)). (k : ℕ) (d : Row) → k < length (rows_of s) → Put p (covers f (at ss k)) (get_or (rows_of s) k d) (get_or new k d)) c.as_slice.ensures
+    (subst (λ (rs : List Row). (k : ℕ) (d : Row) → k < length rs → Put p (covers f (at (strings c.as_slice.result.now) k)) (get_or rs k d) (get_or new k d))
+    c.deref_mut.ensures.value c.insert_each.ensures) in
     record {
       told = λ fs within few told. subst (λ (rs : List Row). Told (keys_of s) rs (insert fs p f)) (sym (with_items_is s.rows new (omega (arith, s.rows.ok.0))))
           (table_inserted (λ x k. covers x (at (keys_of s) k)) fs p f (rows_of s) new within few n told put);

@@ -9,24 +9,21 @@ use Rattle.prefixes.specs.Keyed.{keys_of, rows_of}
 use Rattle.prefixes.specs.Stored.{at}
 use Rattle.prefixes.proofs.keyed.KeyedRows.remove.Goals as goal
 
-pub invariant-of-self : goal.invariant-of-self
-invariant-of-self c =
+pub invariant_of-self : goal.invariant_of-self
+invariant_of-self c =
     let s = c.args.self.now in
-    let new = c.remove-each.new.rows in
-    let n = c.remove-each.auto.rows ∙ ap length c.deref-mut.ensures.value in (
-      ap length (with_items_is s.rows new (omega (arith, s.rows.ok.0))) ∙ n ∙ s.level,
-      (s.room, tt),
-    )
+    let new = c.remove_each.new.rows in
+    let n = c.remove_each.auto.rows ∙ ap length c.deref_mut.ensures.value in record { level = ap length (with_items_is s.rows new (omega (arith, s.rows.ok.0))) ∙ n ∙ s.level; room = s.room }
 
 pub returns : goal.returns
 returns c =
     let s = c.args.self.now in
-    let new = c.remove-each.new.rows in
+    let new = c.remove_each.new.rows in
     let p = c.args.place in
-    let n = c.remove-each.auto.rows ∙ ap length c.deref-mut.ensures.value in
+    let n = c.remove_each.auto.rows ∙ ap length c.deref_mut.ensures.value in
     record {
       told = λ fs within told. subst (λ (rs : List Row). Told (keys_of s) rs (remove fs p)) (sym (with_items_is s.rows new (omega (arith, s.rows.ok.0))))
           (table_removed (λ x k. covers x (at (keys_of s) k)) fs p (rows_of s) new within n told
-          (subst (λ (rs : List Row). (k : ℕ) (d : Row) → k < length rs → Out p (get_or rs k d) (get_or new k d)) c.deref-mut.ensures.value c.remove-each.ensures));
+          (subst (λ (rs : List Row). (k : ℕ) (d : Row) → k < length rs → Out p (get_or rs k d) (get_or new k d)) c.deref_mut.ensures.value c.remove_each.ensures));
       keys = refl;
     }

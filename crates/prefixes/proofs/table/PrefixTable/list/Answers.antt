@@ -25,26 +25,21 @@ give-requires g c =
     let few = lean (keys_of s.keyed) (fronts_of front cs) (ascending_of (keys_of s.keyed) s.keyed.set.set.ascending) c.requires.stored in
     omega (arith, length-map cs (front_of front), c.requires.few)
 
-pub invariant-of-self : goal.invariant-of-self
-invariant-of-self g c =
+pub invariant_of-self : goal.invariant_of-self
+invariant_of-self g c =
     let s = c.args.self.now in
     let p = c.args.place in
     let cs = vec_items s.conditions in
     let row = c.insert-2.new.self in
     let ok : is_ok c.insert-3.result ≡ true = c.insert-3.ensures.succeeds (omega (arith, s.conditions.ok.0, s.room, c.requires.few)) in
     let items = c.insert-3.ensures.items ∙ cond-true (is_ok c.insert-3.result) _ _ ok in
-    let long = c.insert-3.ensures.len ∙ cond-true (is_ok c.insert-3.result) _ _ ok in (
-      omega (arith, long, s.conditions.ok.0, c.requires.few),
-      (
-        omega (arith, c.insert-3.ensures.capacity, s.room),
-        (
-          subst (Shows row plain_any) (sym items)
-              (shows_inserted plain_any cs p c.args.condition s.absent row c.requires.within c.requires.few s.bare
-              (subst (λ (b : Bool). Put p b s.absent row) c.is-any.ensures.result c.insert-2.ensures)),
-          tt,
-        ),
-      ),
-    )
+    let long = c.insert-3.ensures.len ∙ cond-true (is_ok c.insert-3.result) _ _ ok in record {
+      few = omega (arith, long, s.conditions.ok.0, c.requires.few);
+      room = omega (arith, c.insert-3.ensures.capacity, s.room);
+      bare = subst (Shows row plain_any) (sym items)
+          (shows_inserted plain_any cs p c.args.condition s.absent row c.requires.within c.requires.few s.bare
+          (subst (λ (b : Bool). Put p b s.absent row) c.is_any.ensures.result c.insert-2.ensures));
+    }
 
 pub returns : goal.returns
 returns g c =
@@ -54,7 +49,7 @@ returns g c =
     let front = g.T.Prefix.front in
     let cs = vec_items s.conditions in
     let fs = fronts_of front cs in
-    let f = option_map spelled c.front-of-front.result in
+    let f = option_map spelled c.front_of-front.result in
     let t = c.insert.new.self in
     let n = length-map cs (front_of front) in
     let within : p ≤ length fs = omega (arith, c.requires.within) in
@@ -62,7 +57,7 @@ returns g c =
     let ok : is_ok c.insert-3.result ≡ true = c.insert-3.ensures.succeeds (omega (arith, s.conditions.ok.0, s.room, c.requires.few)) in
     let items = c.insert-3.ensures.items ∙ cond-true (is_ok c.insert-3.result) _ _ ok in
     let listed : insert fs p f ≡ fronts_of front (vec_items c.insert-3.new.self) =
-    ap (insert fs p) c.front-of-front.ensures ∙ sym (map_inserted (front_of front) cs p x) ∙ ap (fronts_of front) (sym items) in
+    ap (insert fs p) c.front_of-front.ensures ∙ sym (map_inserted (front_of front) cs p x) ∙ ap (fronts_of front) (sym items) in
     record {
       later = items;
       told = subst (Told (keys_of t) (rows_of t)) listed

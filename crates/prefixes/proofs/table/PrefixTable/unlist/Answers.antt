@@ -13,20 +13,15 @@ use Rattle.prefixes.specs.Spelled.{spelled}
 use Rattle.prefixes.proofs.EditLaws.{map_removed}
 use Rattle.prefixes.proofs.table.PrefixTable.unlist.Goals as goal
 
-pub invariant-of-self : goal.invariant-of-self
-invariant-of-self g c =
+pub invariant_of-self : goal.invariant_of-self
+invariant_of-self g c =
     let s = c.args.self.now in
-    let row = c.remove-2.new.self in (
-      omega (arith, c.remove-3.ensures.len, s.few),
-      (
-        omega (arith, c.remove-3.ensures.capacity, s.room),
-        (
-          subst (Shows row plain_any) (sym c.remove-3.ensures.items)
-              (shows_removed plain_any (vec_items s.conditions) c.args.place s.absent row c.requires.within s.bare c.remove-2.ensures),
-          tt,
-        ),
-      ),
-    )
+    let row = c.remove-2.new.self in record {
+      few = omega (arith, c.remove-3.ensures.len, s.few);
+      room = omega (arith, c.remove-3.ensures.capacity, s.room);
+      bare = subst (Shows row plain_any) (sym c.remove-3.ensures.items)
+          (shows_removed plain_any (vec_items s.conditions) c.args.place s.absent row c.requires.within s.bare c.remove-2.ensures);
+    }
 
 pub returns : goal.returns
 returns g c =
@@ -35,7 +30,7 @@ returns g c =
     let front = g.T.Prefix.front in
     let cs = vec_items s.conditions in
     let fs = fronts_of front cs in
-    let f = option_map spelled c.front-of-front.result in
+    let f = option_map spelled c.front_of-front.result in
     let t = c.remove.new.self in
     let u = c.forget.new.self in
     let n = length-map cs (front_of front) in
@@ -44,7 +39,7 @@ returns g c =
     let listed : remove fs p ≡ fronts_of front (vec_items c.remove-3.new.self) =
     sym (map_removed (front_of front) cs p) ∙ ap (fronts_of front) (sym items) in
     let here : get_or fs p None ≡ f = get_or-map (front_of front) cs p c.index.result.now None c.requires.within
-    ∙ ap (front_of front) (sym c.index.ensures) ∙ sym c.front-of-front.ensures in
+    ∙ ap (front_of front) (sym c.index.ensures) ∙ sym c.front_of-front.ensures in
     let told : Told (keys_of t) (rows_of t) (remove fs p) = c.remove.ensures.told fs within c.requires.told in
     let stores : StoresWith (keys_of t) f (remove fs p) = λ q pos.
     ap (λ (ks : List (List ℕ)). has ks q) c.remove.ensures.keys ∙ c.requires.stored q pos ∙ some_removed (λ y. names y q) fs p None within

@@ -12,23 +12,23 @@ enough header payload start passes = grind (arith, nat_tests)
 
 pub values-requires : goal.values-requires
 values-requires c =
-    let h = c.in-ok-extent.ensures.result in
+    let h = c.in_ok-extent.ensures.result in
     record { header = search rules; payload = enough _ _ _ c.in-None.ensures.result }
 
-pub returns-in-err-extent : goal.returns-in-err-extent
-returns-in-err-extent c =
-    let e = early c.args.bytes.now c.in-err-extent.field-0.0 c.in-err-extent.ensures.result in
+pub returns-in_err-extent : goal.returns-in_err-extent
+returns-in_err-extent c =
+    let e = early c.args.bytes.now c.in_err-extent.field-0.0 c.in_err-extent.ensures.result in
     record { result = search rules }
 
 pub returns-in-Some : goal.returns-in-Some
 returns-in-Some c =
-    let second = cut c.args.bytes.now c.in-ok-extent.extent c.in-ok-extent.ensures.result in
+    let second = cut c.args.bytes.now c.in_ok-extent.extent c.in_ok-extent.ensures.result in
     record { result = cc }
 
 pub returns-in-None : goal.returns-in-None
 returns-in-None c =
-    let x = c.in-ok-extent.ensures.result in
-    let second = cut c.args.bytes.now c.in-ok-extent.extent x in
+    let x = c.in_ok-extent.ensures.result in
+    let second = cut c.args.bytes.now c.in_ok-extent.extent x in
     record {
       result = record {
         passes = cc;

@@ -16,8 +16,8 @@ returns-then-place-ge-PLACES c = none_put c.args.self.now.words c.args.place c.a
 pub returns : goal.returns
 returns c =
     let e : c.loop-k.k ≡ c.args.place / 64 + 1 = omega (arith, c.loop-k.invariant.0) in
-    put_all (at c.args.self.now.words) (set c.loop-k.self.words (c.args.place / 64) c.put-in.result) c.args.place
-    c.args.value (omega (arith, length-set c.loop-k.self.words (c.args.place / 64) c.put-in.result))
-    (put_more (at c.args.self.now.words) c.loop-k.self.words c.args.place (c.args.place / 64) c.put-in.result
+    put_all (at c.args.self.now.words) (set c.loop-k.self.words (c.args.place / 64) c.put_in.result) c.args.place
+    c.args.value (omega (arith, length-set c.loop-k.self.words (c.args.place / 64) c.put_in.result))
+    (put_more (at c.args.self.now.words) c.loop-k.self.words c.args.place (c.args.place / 64) c.put_in.result
     c.args.value (omega arith) (omega arith) refl
-    (subst (Downward (at c.args.self.now.words) c.loop-k.self.words) e c.loop-k.invariant.1) c.put-in.ensures)
+    (subst (Downward (at c.args.self.now.words) c.loop-k.self.words) e c.loop-k.invariant.1) c.put_in.ensures)

@@ -7,8 +7,8 @@ loop-k-init c = (refl, upward_none (λ i. ltb i (min c.args.n 512)) (λ _. false
 
 pub loop-k-preserved : goal.loop-k-preserved
 loop-k-preserved c = (
-  length-set c.loop-k.words c.loop-k.k c.leading-ones.result ∙ c.loop-k.invariant.0,
-  upward_more (λ i. ltb i (min c.args.n 512)) (λ _. false) c.loop-k.words c.loop-k.k c.leading-ones.result (omega (arith, c.loop-k.invariant.0))
+  length-set c.loop-k.words c.loop-k.k c.leading_ones.result ∙ c.loop-k.invariant.0,
+  upward_more (λ i. ltb i (min c.args.n 512)) (λ _. false) c.loop-k.words c.loop-k.k c.leading_ones.result (omega (arith, c.loop-k.invariant.0))
       c.loop-k.invariant.1
-      (λ r h. c.leading-ones.ensures r h ∙ ap (ltb r) (omega arith) ∙ ones_place c.args.n c.loop-k.k r (omega arith) h),
+      (λ r h. c.leading_ones.ensures r h ∙ ap (ltb r) (omega arith) ∙ ones_place c.args.n c.loop-k.k r (omega arith) h),
 )

@@ -8,15 +8,15 @@ use Rattle.columns.proofs.Tables.{Each, each_none, each_more}
 use Rattle.ports.proofs.values.keyed.methods.put_each.Goals as goal
 
 pub loop-k-init : goal.loop-k-init
-loop-k-init g c = each_none (λ k. Put c.args.place (g.row.C-Condition.admits c.args.condition.now (port_at c.args.keys.now k))) c.args.rows.now
+loop-k-init g c = each_none (λ k. Put c.args.place (g.C.Condition.admits c.args.condition.now (port_at c.args.keys.now k))) c.args.rows.now
 
 pub loop-k-preserved : goal.loop-k-preserved
 loop-k-preserved g c =
-    each_more (λ k. Put c.args.place (g.row.C-Condition.admits c.args.condition.now (port_at c.args.keys.now k))) c.args.rows.now
+    each_more (λ k. Put c.args.place (g.C.Condition.admits c.args.condition.now (port_at c.args.keys.now k))) c.args.rows.now
     c.loop-k.rows c.loop-k.k c.insert.new.self (record { words = [] }) (omega arith) c.loop-k.invariant
     (λ i. c.insert.ensures i
     ∙ ap (λ b. cond (ltb i 512) (put_in (shown (get_or c.loop-k.rows c.loop-k.k (record { words = [] }))) c.args.place b i) false)
-    c.holds-on-holds.ensures.result)
+    c.holds_on-holds.ensures.result)
 
 pub returns : goal.returns
 returns g c = λ k d h. c.loop-k.invariant.0 k d (omega arith)

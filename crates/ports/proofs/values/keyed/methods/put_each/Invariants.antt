@@ -5,4 +5,4 @@ use Rattle.columns.proofs.Tables.{Each}
 use Rattle.ports.proofs.values.keyed.methods.put_each.Given as goal
 
 abbrev pub invariant-loop-k : goal.invariant-loop-k
-invariant-loop-k g l = Each (λ k. Put l.place (g.row.C-Condition.admits l.condition (port_at l.keys k))) l.initial.rows l.rows l.k
+invariant-loop-k g l = Each (λ k. Put l.place (g.C.Condition.admits l.condition (port_at l.keys k))) l.initial.rows l.rows l.k

@@ -4,17 +4,16 @@ use Rattle.ports.specs.Ordered.{keys_of}
 use Rattle.ports.proofs.Climbing.{climbs_inserted, has_found}
 use Rattle.ports.proofs.values.ordered.OrderedRows.give.Goals as goal
 
-pub invariant-of-self : goal.invariant-of-self
-invariant-of-self c = (
-  subst IsStrictlyIncreasing (sym c.put.ensures.keys)
-      (climbs_inserted (keys_of c.args.self.now) c.args.key c.in-Err.at c.args.self.now.climbs c.in-Err.ensures),
-  tt,
-)
+pub invariant_of-self : goal.invariant_of-self
+invariant_of-self c = record {
+  climbs = subst IsStrictlyIncreasing (sym c.put.ensures.keys)
+      (climbs_inserted (keys_of c.args.self.now) c.args.key c.in-Err.at c.args.self.now.climbs c.in-Err.ensures);
+}
 
-pub returns-in-default : goal.returns-in-default
-returns-in-default c =
-    let found = c.in-default.ensures in
+pub returns-in_default : goal.returns-in_default
+returns-in_default c =
+    let found = c.in_default.ensures in
     record {
-      given = inl (has_found (keys_of c.args.self.now) c.args.key c.in-default.field-0 found.0 found.1, refl, refl);
+      given = inl (has_found (keys_of c.args.self.now) c.args.key c.in_default.field-0 found.0 found.1, refl, refl);
       limit = refl;
     }
