@@ -19,7 +19,10 @@ pub(crate) fn bare(text: &str) -> &str {
 }
 
 pub(crate) fn write_name<W: fmt::Write>(name: &[u8], f: &mut fmt::Formatter<W>) -> fmt::Result {
-    if name == b"any".as_slice() || name == b"absent".as_slice() || name.first().copied() == Some(b'!') {
+    if name == b"any".as_slice()
+        || name == b"absent".as_slice()
+        || name.first().copied() == Some(b'!')
+    {
         write!(f, "/")?;
     }
     for byte in name {

@@ -29,7 +29,7 @@ fn address_starts(heap: Global, conditions: &[AddressCondition]) -> Result<Vec<u
             }
         }
     }
-    starts.sort();
+    starts.sort()?;
     starts.dedup();
     Ok(starts)
 }
@@ -61,7 +61,7 @@ fn port_starts(heap: Global, conditions: &[PortCondition]) -> Result<Vec<u16>, A
             }
         }
     }
-    starts.sort();
+    starts.sort()?;
     starts.dedup();
     Ok(starts)
 }
