@@ -1,5 +1,5 @@
 -- The codes of protocols, flags and labels, and the values back from their codes.
-use Rattle.std.specs.Prelude.{ℕ, zero, suc, ◌%◌, ◌<◌}
+use Rattle.std.specs.Prelude.{ℕ, zero, suc, ◌%◌}
 use Rattle.std.proofs.Common.{lit<, mod-lt}
 use Rattle.fields.specs.declared.values.flags.Flags.{Flags}
 use Rattle.fields.specs.declared.values.label.Label.{Label}

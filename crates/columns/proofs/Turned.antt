@@ -1,13 +1,12 @@
 -- A list of conditions with a side for each, after an edit of the list and of the row of sides.
-use Rattle.std.proofs.Common.{◌≡◌, ℕ, zero, suc, ◌+◌, ◌-◌, ◌<◌, ◌≤◌, min, Bool, true, false, cond, not, ◌&&◌, eqb, ltb, leb, ◌⊎◌, List, [], ◌∷◌, ◌++◌, map, length, get_or, take, drop, is_some, Ok, Err, Option, Result, sym, refl, ap, ◌∙◌, subst, inl, inr, ⊎_elim, add-one, arith}
+use Rattle.std.proofs.Common.{◌≡◌, ℕ, zero, suc, ◌+◌, ◌-◌, ◌<◌, ◌≤◌, min, Bool, true, false, cond, not, ◌&&◌, ltb, List, [], ◌∷◌, map, length, get_or, is_some, Ok, Err, Option, sym, refl, ap, ◌∙◌, ⊎_elim, add-one, arith}
 use lib.Dec.{leb-suc-suc}
 use Rattle.std.specs.List.{insert, remove}
-use Rattle.std.proofs.lemmas.Bool.{cases_Bool, cases_order, cases_lt, le-ltb, cond-true, cond-false, and_from, and_parts, le-leb, lt-ltb, leb-true, ltb-true}
+use Rattle.std.proofs.lemmas.Bool.{cases_order, cases_lt, le-ltb, cond-true, cond-false, lt-ltb}
 use Rattle.std.proofs.lemmas.List.{get_or_past, length-map}
 use Rattle.std.proofs.lemmas.Bool.Decides.{nat_tests}
 use Rattle.rows.specs.Bits.{put_in, taken_out, differs}
 use Rattle.fields.specs.declared.refusal.Refusal.{Refusal}
-use Rattle.fields.specs.declared.condition.sided.Sided.{Sided}
 use Rattle.columns.specs.Edits.{insert_answer, insert_after, remove_answer, remove_after}
 use Rattle.fields.specs.Conditions.{sided_admits}
 use Rattle.columns.specs.Sides.{sided, turned}

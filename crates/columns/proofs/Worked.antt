@@ -1,8 +1,8 @@
 -- The worked examples, line by line.
-use Rattle.std.proofs.Common.{◌≡◌, ℕ, ◌-◌, ◌/◌, ◌^◌, Bool, true, false, eqb, List, [], ◌∷◌, codes, sym, refl, ap, ◌∙◌, subst}
+use Rattle.std.proofs.Common.{◌≡◌, ℕ, Bool, eqb, [], ◌∷◌, codes, refl, ap, ◌∙◌}
 use Rattle.fields.specs.Addresses.{first_bits}
 use Rattle.fields.specs.Strings.{begins}
-use Rattle.columns.specs.Examples.{Cast, Worked, AllWorked, word_of, dotted}
+use Rattle.columns.specs.Examples.{AllWorked, word_of, dotted}
 
 -- a prefix by its bits and its length, so that it computes
 abbrev at : ℕ → ℕ → ℕ → Bool

@@ -1,5 +1,5 @@
 -- Worked examples of conditions and rows, as one table over the definitions.
-use Rattle.std.specs.Prelude.{◌≡◌, ℕ, zero, suc, ◌+◌, ◌*◌, ◌^◌, Bool, true, false, cond, List, [], ◌∷◌, map, Some, None, codes, Option}
+use Rattle.std.specs.Prelude.{◌≡◌, ℕ, zero, suc, ◌+◌, ◌*◌, ◌^◌, Bool, true, false, cond, List, [], ◌∷◌, map, Some, None, codes}
 use Rattle.fields.specs.Addresses.{within}
 use Rattle.fields.specs.Admitting.{port_admits}
 use Rattle.fields.specs.Conditions.{plain_admits}

@@ -1,5 +1,5 @@
 -- The rows of the ports that conditions name, after a condition more and one less.
-use Rattle.std.proofs.Common.{◌≡◌, ℕ, ◌<◌, ◌≤◌, Bool, true, false, ◌||◌, eqb, ◌⊎◌, List, [], ◌∷◌, map, length, get_or, sym, refl, ap, ◌∙◌, subst, inl, inr, ⊎_elim, arith}
+use Rattle.std.proofs.Common.{◌≡◌, ℕ, ◌≤◌, true, false, ◌||◌, eqb, List, [], ◌∷◌, map, length, get_or, sym, refl, ap, ◌∙◌, subst, inl, inr, ⊎_elim, arith}
 use Rattle.std.specs.List.{insert, remove}
 use Rattle.std.specs.List.Sorted.{IsStrictlyIncreasing}
 use Rattle.std.proofs.lemmas.Bool.{cases_eq, eqb-true, eqb-false, eq-eqb, ne_eqb, or_parts}
@@ -13,7 +13,6 @@ use Rattle.ports.specs.Keys.{has}
 use Rattle.ports.specs.Ordered.{keys_of, rows_of, Given, Taken}
 use Rattle.ports.specs.Owned.{Readied, Cleaned}
 use Rattle.ports.specs.Ports.{port_holds, on_any, names, named}
-use Rattle.rows.specs.Shown.{shown}
 use Rattle.columns.proofs.Some.{some_inserted, some_removed}
 use Rattle.ports.proofs.Climbing.{lean, has_vacant, has_no_more, beside_inserted, beside_removed}
 

@@ -1,5 +1,5 @@
 -- Conditions on ports, by the port's number.
-use Rattle.std.specs.Prelude.{ℕ, Bool, true, false, List, Some, None, ◌==◌}
+use Rattle.std.specs.Prelude.{ℕ, Bool, false, List, Some, None, ◌==◌}
 use Rattle.fields.specs.Conditions.{plain_admits}
 use Rattle.fields.specs.Passing.{port_passes}
 use Rattle.fields.specs.declared.condition.plain.Plain.{Plain}

@@ -1,5 +1,5 @@
 -- Runs of bits: how two stand side by side, and what the bits of a byte spell.
-use Rattle.std.proofs.Common.{◌≡◌, ℕ, zero, suc, ◌+◌, ◌-◌, ◌*◌, ◌/◌, ◌%◌, ◌^◌, ◌<◌, ◌≤◌, List, get_or, sym, refl, ap, ◌∙◌, add-zero, add_assoc, add-suc, mod-lt, mul_assoc, add-mul, pow-suc, div-one, add-one, arith, shr-shr}
+use Rattle.std.proofs.Common.{◌≡◌, ℕ, zero, suc, ◌+◌, ◌-◌, ◌*◌, ◌/◌, ◌%◌, ◌^◌, ◌<◌, ◌≤◌, List, get_or, sym, ap, ◌∙◌, add-zero, add_assoc, add-suc, mod-lt, mul_assoc, add-mul, pow-suc, add-one, arith, shr-shr}
 use native.Mathlib.Nat.{mod-one}
 use lib.Pow.{high, low, mod-pow-add}
 use Rattle.reader.specs.Drawings.{bit, bits}

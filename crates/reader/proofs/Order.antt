@@ -1,5 +1,5 @@
 -- The checks in their order are those of the first stage, and then those of the second.
-use Rattle.std.proofs.Common.{◌≡◌, ℕ, ◌-◌, Bool, true, false, cond, List, [], ◌∷◌, ◌++◌, length, take, drop, Some, None, Option, sym, refl, ap, ◌∙◌, arith, length-take-le}
+use Rattle.std.proofs.Common.{◌≡◌, ℕ, ◌-◌, Bool, true, false, cond, List, [], ◌∷◌, ◌++◌, length, take, drop, Some, None, Option, refl, ap, ◌∙◌, arith, length-take-le}
 use native.Mathlib.Nat.{sub-zero}
 use Rattle.fields.specs.declared.refusal.Refusal.{Refusal}
 use Rattle.reader.specs.Checks.{header_length, header_of, payload_of, first_of, packet_fault}

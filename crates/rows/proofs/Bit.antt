@@ -1,5 +1,5 @@
 -- The laws of one binary digit of a number.
-use Rattle.std.proofs.Common.{◌≡◌, ℕ, zero, suc, ◌+◌, ◌-◌, ◌*◌, ◌/◌, ◌%◌, ◌^◌, ◌<◌, ◌≤◌, min, max, Bool, true, false, cond, not, ◌&&◌, ◌||◌, eqb, ltb, leb, ◌⊎◌, sym, refl, ap, ◌∙◌, subst, inl, inr, ⊎_elim, mod-lt, mul_assoc, add-mul, one-add, arith, lit<, pow_pos, pow_mono, pow-add, shr-shr, shr_lt}
+use Rattle.std.proofs.Common.{◌≡◌, ℕ, suc, ◌+◌, ◌-◌, ◌*◌, ◌/◌, ◌%◌, ◌^◌, ◌<◌, ◌≤◌, Bool, true, false, cond, not, ◌&&◌, ◌||◌, eqb, ltb, ◌⊎◌, sym, ap, ◌∙◌, subst, inl, inr, ⊎_elim, mod-lt, mul_assoc, add-mul, one-add, arith, lit<, pow_pos, pow_mono, pow-add, shr-shr, shr_lt}
 use lib.Bits.{bit_and, bit_or, bit_xor, differ, and_step, or_step, and_shr, or_shr, xor_step, xor_shr, shifted_even}
 use lib.Pow.{shl-shr, field, mod-mod-pow, high, split}
 use native.Mathlib.Nat.{zero-div, div-eq_of_lt, div-eq_of_lt-le}

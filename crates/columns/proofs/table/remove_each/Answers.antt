@@ -1,6 +1,6 @@
 use Rattle.std.proofs.Common.{[], arith}
 use Rattle.rows.specs.Tables.{Out}
-use Rattle.columns.proofs.Tables.{Each, each_none, each_more}
+use Rattle.columns.proofs.Tables.{each_none, each_more}
 use Rattle.columns.proofs.table.remove_each.Goals as goal
 
 pub loop-code-init : goal.loop-code-init

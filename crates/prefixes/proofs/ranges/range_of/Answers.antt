@@ -1,4 +1,4 @@
-use Rattle.std.proofs.Common.{◌≡◌, ℕ, ◌-◌, ◌/◌, ◌^◌, ◌<◌, ◌⊎◌, [], length, drop, ap, ◌∙◌, inl, inr, ⊎_elim, arith}
+use Rattle.std.proofs.Common.{◌≡◌, ℕ, ◌-◌, ◌/◌, ◌^◌, ◌<◌, [], length, drop, ap, ◌∙◌, inl, inr, ⊎_elim, arith}
 use lib.Seq.{drop-length}
 use Rattle.prefixes.specs.Ranges.{low, size}
 use Rattle.prefixes.proofs.RangeLaws.{read_0, read_1, read_none, half}

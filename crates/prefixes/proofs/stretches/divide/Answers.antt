@@ -1,7 +1,7 @@
 use Rattle.std.proofs.Common.{◌+◌, ◌^◌, ◌<◌, length, sym, refl, ap, ◌∙◌, arith, length-set}
 use Rattle.std.proofs.lemmas.List.{nil_from_length, get_or-set_same, get_or-set_other}
 use Rattle.prefixes.specs.Stored.{strings, at}
-use Rattle.prefixes.specs.Ranges.{low, past}
+use Rattle.prefixes.specs.Ranges.{low}
 use Rattle.prefixes.proofs.StoredLaws.{length_strings}
 use Rattle.prefixes.proofs.RangeLaws.{begins_within, low_bound}
 use Rattle.prefixes.proofs.StretchLaws.{low_before, covers_low, stretch, stretched_more}

@@ -1,4 +1,4 @@
-use Rattle.std.proofs.Common.{sym, arith}
+use Rattle.std.proofs.Common.{arith}
 use Rattle.reader.proofs.Bits.{long_bits}
 use Rattle.reader.proofs.numbers.long.Goals as goal
 

@@ -1,4 +1,4 @@
-use Rattle.std.proofs.Common.{arith, rules}
+use Rattle.std.proofs.Common.{rules}
 use Rattle.reader.proofs.Bits.{word_bits}
 use Rattle.reader.proofs.numbers.word.Goals as goal
 

@@ -2,7 +2,7 @@ use Rattle.std.proofs.Common.{false, cond, ltb, [], get_or, Some, ap, ◌∙◌,
 use Rattle.rows.specs.Bits.{put_in}
 use Rattle.rows.specs.Shown.{shown}
 use Rattle.rows.specs.Tables.{Put}
-use Rattle.columns.proofs.Tables.{Each, each_none, each_more}
+use Rattle.columns.proofs.Tables.{each_none, each_more}
 use Rattle.codes.proofs.spread.edits.insert_each.Goals as goal
 
 pub loop-code-init : goal.loop-code-init

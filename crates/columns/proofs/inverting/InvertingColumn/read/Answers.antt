@@ -1,4 +1,3 @@
-use Rattle.std.proofs.Common.{◌≡◌, sym, ◌∙◌}
 use Rattle.rows.specs.Shown.{shown}
 use Rattle.columns.proofs.Turned.{read_turned}
 use Rattle.columns.proofs.inverting.InvertingColumn.read.Goals as goal

@@ -1,4 +1,4 @@
-use Rattle.std.proofs.Common.{◌≡◌, ℕ, ◌+◌, List, [], ◌∷◌, ◌++◌, map, length, vec_items, sym, ap, ◌∙◌, arith}
+use Rattle.std.proofs.Common.{◌≡◌, ℕ, List, [], ◌∷◌, ◌++◌, map, length, vec_items, sym, ap, ◌∙◌, arith}
 use Rattle.prefixes.specs.Held.{held}
 use Rattle.prefixes.specs.Ranges.{low, past}
 use Rattle.prefixes.proofs.StoredLaws.{ascending_of, linked_of, length_strings}

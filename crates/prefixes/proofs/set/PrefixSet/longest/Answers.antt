@@ -1,4 +1,4 @@
-use Rattle.std.proofs.Common.{◌-◌, length, vec_items, sym, ap, ◌∙◌}
+use Rattle.std.proofs.Common.{length, vec_items, sym, ap, ◌∙◌}
 use Rattle.prefixes.specs.Stored.{strings}
 use Rattle.prefixes.proofs.StoredLaws.{ascending_of, linked_of}
 use Rattle.prefixes.proofs.EditLaws.{ascending_same, linked_same}

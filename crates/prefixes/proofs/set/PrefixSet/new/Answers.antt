@@ -1,4 +1,4 @@
-use Rattle.std.proofs.Common.{◌≡◌, ℕ, ◌+◌, ◌-◌, List, [], ◌∷◌, ◌++◌, length, vec_items, sym, ap, ◌∙◌, arith}
+use Rattle.std.proofs.Common.{◌≡◌, ℕ, List, [], ◌∷◌, ◌++◌, length, vec_items, sym, ap, ◌∙◌, arith}
 use Rattle.prefixes.specs.declared.symbols.Symbols.{Symbols}
 use Rattle.prefixes.proofs.EditLaws.{ascending_same, linked_same}
 use Rattle.prefixes.proofs.set.PrefixSet.new.Goals as goal

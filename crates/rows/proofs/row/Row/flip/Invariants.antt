@@ -1,4 +1,3 @@
-use Rattle.std.proofs.Common.{not, ◌&&◌}
 use Rattle.rows.specs.Bits.{at, differs}
 use Rattle.rows.proofs.Rows.{Upward}
 use Rattle.rows.proofs.row.Row.flip.Given as goal

@@ -1,4 +1,4 @@
-use Rattle.std.proofs.Common.{◌≡◌, ℕ, ◌+◌, ◌/◌, ◌<◌, set, refl, subst, arith, length-set}
+use Rattle.std.proofs.Common.{◌≡◌, ◌+◌, ◌/◌, set, refl, subst, arith, length-set}
 use Rattle.rows.specs.Bits.{at}
 use Rattle.rows.proofs.Rows.{Downward, back_again, put_more, put_all, none_put}
 use Rattle.rows.proofs.row.Row.insert.Goals as goal

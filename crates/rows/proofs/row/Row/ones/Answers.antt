@@ -1,4 +1,4 @@
-use Rattle.std.proofs.Common.{◌≤◌, min, false, ltb, replicate, refl, ap, ◌∙◌, arith, length-set}
+use Rattle.std.proofs.Common.{min, false, ltb, replicate, refl, ap, ◌∙◌, arith, length-set}
 use Rattle.rows.proofs.Rows.{at_zeros, upward_none, upward_more, ones_place}
 use Rattle.rows.proofs.row.Row.ones.Goals as goal
 

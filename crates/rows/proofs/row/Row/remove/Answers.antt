@@ -1,4 +1,4 @@
-use Rattle.std.proofs.Common.{◌≡◌, ℕ, ◌+◌, ◌*◌, ◌/◌, ◌%◌, ◌<◌, ◌≤◌, Bool, false, List, length, get_or, set, sym, refl, ap, ◌∙◌, subst, ⊎_elim, arith, length-set}
+use Rattle.std.proofs.Common.{ℕ, ◌+◌, ◌*◌, ◌/◌, ◌%◌, ◌≤◌, Bool, List, length, get_or, set, sym, refl, ap, ◌∙◌, arith, length-set}
 use Rattle.rows.specs.Bits.{at, top, taken_out, before_first, joined_out}
 use Rattle.rows.proofs.Rows.{at_past, forward_more, first_out, out_all, upward_all, none_out, out_past}
 use Rattle.rows.proofs.row.Row.remove.Goals as goal

@@ -1,8 +1,7 @@
-use Rattle.std.proofs.Common.{ℕ, ◌-◌, Bool, not, ◌&&◌, get_or, refl, ap, ◌∙◌, arith}
-use lib.Bits.{bit_and, bit_xor}
-use Rattle.rows.specs.Bits.{at, bit, top, differs}
-use Rattle.rows.proofs.Bit.{bit_of_and, bit_of_xor}
-use Rattle.rows.proofs.Words.{not_word}
+use Rattle.std.proofs.Common.{ℕ, ◌-◌, ◌&&◌, get_or, refl, arith}
+use lib.Bits.{bit_and}
+use Rattle.rows.specs.Bits.{at}
+use Rattle.rows.proofs.Bit.{bit_of_and}
 use Rattle.rows.proofs.Rows.{joined_more, joined_all}
 use Rattle.rows.proofs.row.Row.retain.Goals as goal
 

@@ -1,5 +1,5 @@
-use Rattle.std.proofs.Common.{not, ◌&&◌}
-use Rattle.rows.specs.Bits.{at, differs}
+use Rattle.std.proofs.Common.{◌&&◌}
+use Rattle.rows.specs.Bits.{at}
 use Rattle.rows.proofs.Rows.{Upward}
 use Rattle.rows.proofs.row.Row.retain.Given as goal
 

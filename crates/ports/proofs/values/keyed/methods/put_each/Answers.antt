@@ -1,10 +1,9 @@
-use Rattle.std.proofs.Common.{false, cond, ltb, [], get_or, sym, ap, ◌∙◌, arith}
-use Rattle.std.proofs.lemmas.List.{get_or_default}
+use Rattle.std.proofs.Common.{false, cond, ltb, [], get_or, ap, ◌∙◌, arith}
 use Rattle.rows.specs.Bits.{put_in}
 use Rattle.rows.specs.Shown.{shown}
 use Rattle.ports.specs.Keys.{port_at}
 use Rattle.rows.specs.Tables.{Put}
-use Rattle.columns.proofs.Tables.{Each, each_none, each_more}
+use Rattle.columns.proofs.Tables.{each_none, each_more}
 use Rattle.ports.proofs.values.keyed.methods.put_each.Goals as goal
 
 pub loop-k-init : goal.loop-k-init

@@ -1,4 +1,3 @@
-use Rattle.std.proofs.Common.{get_or}
 use Rattle.ports.specs.Keys.{port_at}
 use Rattle.rows.specs.Tables.{Put}
 use Rattle.columns.proofs.Tables.{Each}

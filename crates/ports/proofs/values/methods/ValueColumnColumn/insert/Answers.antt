@@ -1,7 +1,6 @@
-use Rattle.std.proofs.Common.{◌≡◌, ℕ, ◌-◌, ◌<◌, ◌≤◌, Bool, true, ◌||◌, List, length, get_or, is_ok, vec_items, vec_len, sym, ap, ◌∙◌, subst, arith}
+use Rattle.std.proofs.Common.{◌≡◌, ℕ, ◌-◌, ◌<◌, ◌≤◌, Bool, true, ◌||◌, List, length, get_or, is_ok, vec_items, sym, ap, ◌∙◌, subst, arith}
 use Rattle.std.specs.List.{insert}
 use Rattle.std.proofs.lemmas.Bool.{cond-true}
-use Rattle.rows.specs.declared.row.Row.{Row}
 use Rattle.ports.specs.declared.values.ordered.OrderedRows.{OrderedRows}
 use Rattle.fields.specs.declared.condition.plain.Plain.{Plain}
 use Rattle.fields.specs.declared.values.port.Port.{Port}

@@ -1,6 +1,5 @@
-use Rattle.std.proofs.Common.{◌≡◌, ℕ, ◌-◌, ◌<◌, Bool, ◌||◌, List, length, get_or, vec_items, vec_len, sym, refl, ap, ◌∙◌, subst, arith}
+use Rattle.std.proofs.Common.{◌≡◌, ℕ, ◌-◌, ◌<◌, ◌||◌, List, length, get_or, vec_items, sym, ap, ◌∙◌, subst, arith}
 use Rattle.std.specs.List.{remove}
-use Rattle.rows.specs.declared.row.Row.{Row}
 use Rattle.ports.specs.declared.values.ordered.OrderedRows.{OrderedRows}
 use Rattle.fields.specs.declared.condition.plain.Plain.{Plain}
 use Rattle.fields.specs.declared.values.port.Port.{Port}

@@ -1,4 +1,4 @@
-use Rattle.std.proofs.Common.{◌≡◌, sym, refl, subst, inl}
+use Rattle.std.proofs.Common.{sym, refl, subst, inl}
 use Rattle.std.specs.List.Sorted.{IsStrictlyIncreasing}
 use Rattle.ports.specs.Ordered.{keys_of}
 use Rattle.ports.proofs.Climbing.{climbs_inserted, has_found}
