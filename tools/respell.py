@@ -32,6 +32,16 @@ def files():
         yield from sorted(glob.glob("crates/*/" + end, recursive=True))
 
 
+# Names that an import gives, and one of a module's parameters, respelled alike.
+GIVEN_HERE = {
+    "theStated": "the_stated",
+    "stringAt": "string_at",
+    "inOrder": "in_order",
+    "coversAll": "covers_all",
+    "eq-true": "eq_true",
+}
+
+
 def declared():
     names = set()
     for path in files():
@@ -40,7 +50,7 @@ def declared():
                 it = DECLARED.match(line)
                 if it and "-" in it[1] and not ASKED.match(line) and not GIVEN.match(it[1]):
                     names.add(it[1])
-    return {n: APART.get(n, n.replace("-", "_")) for n in sorted(names)}
+    return {n: APART.get(n, n.replace("-", "_")) for n in sorted(names)} | GIVEN_HERE
 
 
 def respelled(text, names):

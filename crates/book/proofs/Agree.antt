@@ -59,7 +59,7 @@ module _ {X : Type 0} (q : X → Bool) where
       omega (arith, sum_by-cons (λ e. cond (q e) 1 0) x xs, sum_by-cons (λ e. cond (q e && r e) 1 0) x xs, sum_by-cons (λ e. cond (q e && not (r e)) 1 0) x xs, halves (q x) (r x), count_parted r xs)
 
   -- lists that agree on every test answer alike, where one entry passes at most
-  module _ (eq : X → X → Bool) (eq_self : (x : X) → eq x x ≡ true) (eq-true : (x y : X) → eq x y ≡ true → x ≡ y)
+  module _ (eq : X → X → Bool) (eq_self : (x : X) → eq x x ≡ true) (eq_true : (x y : X) → eq x y ≡ true → x ≡ y)
       (xs ys : List X) (agree : (p : X → Bool) → count_by (λ e. q e && p e) xs ≡ count_by (λ e. q e && p e) ys) (once : count_by q xs ≤ 1) where
     anyway : (zs : List X) → count_by (λ e. q e && true) zs ≡ count_by q zs
     anyway zs = sum_agree (λ e. cond (q e && true) 1 0) (λ e. cond (q e) 1 0) zs (λ k d l. with_true (q (get_or zs k d)))
@@ -78,7 +78,7 @@ module _ {X : Type 0} (q : X → Bool) where
     alike_by x h (Some y) e = same (eq y x) refl
       where
         same : (b : Bool) → eq y x ≡ b → Some y ≡ Some x
-        same true k = ap Some (eq-true y x k)
+        same true k = ap Some (eq_true y x k)
         same false k =
             let n : not (eq y x) ≡ true = rw k in
             let a = counts_found (λ z. eq z x) x xs h (eq_self x) in

@@ -1,7 +1,7 @@
 // Strings of symbols compared.
 ghost use Rattle.std.specs.Prelude.{◌≡◌, ◌≤◌};
 ghost use Rattle.fields.specs.Strings.{begins as front, same as alike};
-ghost use Rattle.prefixes.specs.Strings.{ordered as inOrder, common};
+ghost use Rattle.prefixes.specs.Strings.{ordered as in_order, common};
 
 // How many leading symbols the two share, of which `from` are known.
 pub(crate) fn shared(p: &[u8], s: &[u8], from: usize) -> usize
@@ -25,7 +25,7 @@ pub(crate) fn begins(p: &[u8], s: &[u8]) -> bool
 // Whether `p`, which shares its first `at` symbols with `s`, is `s` or comes before it.
 pub(crate) fn precedes(p: &[u8], s: &[u8], at: usize) -> bool
     requires { at ≡ common p.now s.now }
-    ensures { result ≡ inOrder p.now s.now }
+    ensures { result ≡ in_order p.now s.now }
 {
     if at >= p.len() {
         return true;
@@ -38,7 +38,7 @@ pub(crate) fn precedes(p: &[u8], s: &[u8], at: usize) -> bool
 
 // Whether `p` is `s` or comes before it in the order of the alphabet.
 pub(crate) fn ordered(p: &[u8], s: &[u8]) -> bool
-    ensures { result ≡ inOrder p.now s.now }
+    ensures { result ≡ in_order p.now s.now }
 {
     precedes(p, s, shared(p, s, 0))
 }

@@ -2,8 +2,8 @@
 ghost use Rattle.std.specs.Prelude.{◌≡◌, ℕ, ◌+◌, ◌<◌, ◌≤◌, true, false, [], length};
 ghost use Rattle.fields.specs.Strings.{begins as front};
 ghost use Rattle.prefixes.specs.Placed.{Placed};
-ghost use Rattle.prefixes.specs.Stored.{strings, at as stringAt, Ascending, Covers, LinkedTo, Longest};
-ghost use Rattle.prefixes.specs.Strings.{ordered as inOrder};
+ghost use Rattle.prefixes.specs.Stored.{strings, at as string_at, Ascending, Covers, LinkedTo, Longest};
+ghost use Rattle.prefixes.specs.Strings.{ordered as in_order};
 
 use crate::compare::{begins, ordered, precedes, shared};
 use crate::symbols::Symbols;
@@ -22,8 +22,8 @@ fn rank(stored: &[Symbols], key: &[u8]) -> usize
     requires { Ascending (strings stored.now) }
     ensures some { 0 < result }
     ensures within { result ≤ length stored.now }
-    ensures low { (i : ℕ) → i < result → inOrder (stringAt (strings stored.now) i) key.now ≡ true }
-    ensures high { (i : ℕ) → result ≤ i → i < length stored.now → inOrder (stringAt (strings stored.now) i) key.now ≡ false }
+    ensures low { (i : ℕ) → i < result → in_order (string_at (strings stored.now) i) key.now ≡ true }
+    ensures high { (i : ℕ) → result ≤ i → i < length stored.now → in_order (string_at (strings stored.now) i) key.now ≡ false }
 {
     let mut low = 1;
     let mut high = stored.len();
@@ -62,11 +62,11 @@ pub(crate) fn locate(stored: &[Symbols], prefix: &[u8]) -> Place
 fn ascend(stored: &[Symbols], links: &[usize], from: usize, key: &[u8]) -> usize
     requires within { from < length stored.now }
     requires level { length links.now ≡ length stored.now }
-    requires root { stringAt (strings stored.now) 0 ≡ [] }
+    requires root { string_at (strings stored.now) 0 ≡ [] }
     requires linked { LinkedTo (strings stored.now) links.now (from + 1) }
     requires covers { Covers (strings stored.now) key.now (from + 1) from }
     ensures bound { result ≤ from }
-    ensures begun { front (stringAt (strings stored.now) result) key.now ≡ true }
+    ensures begun { front (string_at (strings stored.now) result) key.now ≡ true }
     ensures covers { Covers (strings stored.now) key.now (from + 1) result }
 {
     let mut at = from;

@@ -3,7 +3,7 @@ ghost use Rattle.std.specs.Prelude.{◌≡◌, ℕ, ◌+◌, ◌^◌, ◌<◌, �
 ghost use Rattle.fields.specs.Strings.{begins as front};
 ghost use Rattle.prefixes.specs.Bits.{bits_of};
 ghost use Rattle.prefixes.specs.Ranges.{low as low_of, past as past_of, Padded, Stretched};
-ghost use Rattle.prefixes.specs.Stored.{strings, at as stringAt, Ascending, Covers, LinkedTo, Longest};
+ghost use Rattle.prefixes.specs.Stored.{strings, at as string_at, Ascending, Covers, LinkedTo, Longest};
 
 use crate::ranges::END;
 use crate::symbols::Symbols;
@@ -48,13 +48,13 @@ fn climb(stored: &[Symbols], pasts: &[u64], links: &[usize], from: usize, key: u
     requires within { from < length stored.now }
     requires pasts { pasts.now ≡ map (past_of 32) (strings stored.now) }
     requires level { length links.now ≡ length stored.now }
-    requires root { stringAt (strings stored.now) 0 ≡ [] }
+    requires root { string_at (strings stored.now) 0 ≡ [] }
     requires linked { LinkedTo (strings stored.now) links.now (from + 1) }
     requires key { key < 2 ^ 32 }
-    requires lows { (i : ℕ) → i < from + 1 → low_of 32 (stringAt (strings stored.now) i) ≤ key }
+    requires lows { (i : ℕ) → i < from + 1 → low_of 32 (string_at (strings stored.now) i) ≤ key }
     requires covers { Covers (strings stored.now) (bits_of 32 key) (from + 1) from }
     ensures bound { result ≤ from }
-    ensures begun { front (stringAt (strings stored.now) result) (bits_of 32 key) ≡ true }
+    ensures begun { front (string_at (strings stored.now) result) (bits_of 32 key) ≡ true }
     ensures covers { Covers (strings stored.now) (bits_of 32 key) (from + 1) result }
 {
     let mut at = from;
@@ -68,10 +68,10 @@ fn climb(stored: &[Symbols], pasts: &[u64], links: &[usize], from: usize, key: u
 fn advance(stored: &[Symbols], lows: &[u64], from: usize, key: u64) -> usize
     requires within { from < length stored.now }
     requires lows { lows.now ≡ map (low_of 32) (strings stored.now) }
-    requires low { low_of 32 (stringAt (strings stored.now) from) ≤ key }
+    requires low { low_of 32 (string_at (strings stored.now) from) ≤ key }
     ensures within { result < length stored.now }
-    ensures low { low_of 32 (stringAt (strings stored.now) result) ≤ key }
-    ensures high { result + 1 < length stored.now → key < low_of 32 (stringAt (strings stored.now) (result + 1)) }
+    ensures low { low_of 32 (string_at (strings stored.now) result) ≤ key }
+    ensures high { result + 1 < length stored.now → key < low_of 32 (string_at (strings stored.now) (result + 1)) }
 {
     let mut last = from;
     while last + 1 < lows.len() && lows[last + 1] <= key {
@@ -86,9 +86,9 @@ fn until(stored: &[Symbols], lows: &[u64], pasts: &[u64], last: usize, answer: u
     requires answer { answer < length stored.now }
     requires lows { lows.now ≡ map (low_of 32) (strings stored.now) }
     requires pasts { pasts.now ≡ map (past_of 32) (strings stored.now) }
-    ensures past { result ≤ past_of 32 (stringAt (strings stored.now) answer) }
-    ensures low { last + 1 < length stored.now → result ≤ low_of 32 (stringAt (strings stored.now) (last + 1)) }
-    ensures least { (s : ℕ) → s < past_of 32 (stringAt (strings stored.now) answer) → (last + 1 < length stored.now → s < low_of 32 (stringAt (strings stored.now) (last + 1))) → s < result }
+    ensures past { result ≤ past_of 32 (string_at (strings stored.now) answer) }
+    ensures low { last + 1 < length stored.now → result ≤ low_of 32 (string_at (strings stored.now) (last + 1)) }
+    ensures least { (s : ℕ) → s < past_of 32 (string_at (strings stored.now) answer) → (last + 1 < length stored.now → s < low_of 32 (string_at (strings stored.now) (last + 1))) → s < result }
 {
     let past = pasts[answer];
     if last + 1 < lows.len() {

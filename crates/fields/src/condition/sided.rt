@@ -1,6 +1,6 @@
 // A condition as it stands, or inverted.
 ghost use Rattle.std.specs.Prelude.{◌≡◌, true, false, Some, None};
-ghost use Rattle.fields.specs.Making.{stated as theStated};
+ghost use Rattle.fields.specs.Making.{stated as the_stated};
 ghost use Rattle.fields.specs.Conditions.{sided_admits, sided_any, plain_side, inverted_side};
 ghost use Rattle.std.proofs.Common.{rules};
 
@@ -59,7 +59,7 @@ impl<K: Condition> Sided<K> {
 impl<T: Test> Sided<Plain<T>> {
     // The condition that states a pattern. It is never an inverted "any".
     pub(crate) fn stated(pattern: T, sense: Sense) -> Self
-        ensures result { result ≡ theStated pattern sense }
+        ensures result { result ≡ the_stated pattern sense }
     {
         let inverted = match sense {
             Sense::Plain => false,

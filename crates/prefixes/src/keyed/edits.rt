@@ -3,7 +3,7 @@ ghost use Rattle.std.specs.Prelude.{◌≡◌, ℕ, ◌<◌, length, slice_index
 ghost use Rattle.std.specs.Option.{option_map};
 ghost use Rattle.rows.specs.Tables.{Put, Out};
 ghost use Rattle.rows.specs.declared.row.Row.{Row};
-ghost use Rattle.prefixes.specs.Fronts.{covers as coversAll};
+ghost use Rattle.prefixes.specs.Fronts.{covers as covers_all};
 ghost use Rattle.prefixes.specs.Spelled.{spelled};
 ghost use Rattle.prefixes.specs.Stored.{strings, at};
 
@@ -13,7 +13,7 @@ use rows::Row;
 
 // Whether a condition with this front holds on every value that begins with the string.
 pub(crate) fn covers(front: &Option<Symbols>, string: &Symbols) -> bool
-    ensures { result ≡ coversAll (option_map spelled front.now) (spelled string.now) }
+    ensures { result ≡ covers_all (option_map spelled front.now) (spelled string.now) }
 {
     match front {
         None => true,
@@ -29,7 +29,7 @@ pub(crate) fn insert_each(
     front: &Option<Symbols>,
 )
     requires { length rows.old ≡ length stored.now }
-    ensures { (k : ℕ) (d : Row) → k < length rows.old → Put place (coversAll (option_map spelled front.now) (at (strings stored.now) k)) (slice_index_or rows.old k d) (slice_index_or rows.new k d) }
+    ensures { (k : ℕ) (d : Row) → k < length rows.old → Put place (covers_all (option_map spelled front.now) (at (strings stored.now) k)) (slice_index_or rows.old k d) (slice_index_or rows.new k d) }
 {
     for i in 0..rows.len() {
         let bit = covers(front, &stored[i]);

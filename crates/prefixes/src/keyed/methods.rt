@@ -7,7 +7,7 @@ ghost use Rattle.prefixes.specs.Bits.{bits_of};
 ghost use Rattle.prefixes.specs.Fronts.{Fronts, covers, names, named, has};
 ghost use Rattle.prefixes.specs.Keyed.{keys_of, RowsTold, Keys, KeysWith};
 ghost use Rattle.prefixes.specs.Spelled.{spelled};
-ghost use Rattle.prefixes.specs.Stored.{at as stringAt};
+ghost use Rattle.prefixes.specs.Stored.{at as string_at};
 
 use super::{KeyedRows, edits};
 use crate::indexed::IndexedSet;
@@ -77,7 +77,7 @@ impl KeyedRows {
     fn serves(&self, at: usize) -> bool
         requires above { 0 < at }
         requires within { at < length (keys_of self.now) }
-        ensures { (fs : Fronts) → RowsTold self.now fs → KeysWith self.now (Some (stringAt (keys_of self.now) at)) fs → result ≡ named fs (stringAt (keys_of self.now) at) }
+        ensures { (fs : Fronts) → RowsTold self.now fs → KeysWith self.now (Some (string_at (keys_of self.now) at)) fs → result ≡ named fs (string_at (keys_of self.now) at) }
     {
         let mut own = self.rows[at];
         own.clear(&self.rows[self.set.parent(at)]);
