@@ -32,13 +32,14 @@ def files():
         yield from sorted(glob.glob("crates/*/" + end, recursive=True))
 
 
-# Names that an import gives, and one of a module's parameters, respelled alike.
+# Names that an import gives, a parameter of a module, and a name that port.py garbles (it was `getD-bits`).
 GIVEN_HERE = {
     "theStated": "the_stated",
     "stringAt": "string_at",
     "inOrder": "in_order",
     "coversAll": "covers_all",
     "eq-true": "eq_true",
+    "get_d_bits": "get_or_bits",
 }
 
 

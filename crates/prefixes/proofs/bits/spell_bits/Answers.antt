@@ -1,7 +1,7 @@
 use Rattle.std.proofs.Common.{◌<◌, length, ap, ◌∙◌, arith, length-take}
 use Rattle.std.proofs.lemmas.List.{take_more}
 use Rattle.prefixes.specs.Bits.{bits_of}
-use Rattle.prefixes.proofs.BitLaws.{length_bits, get_d_bits}
+use Rattle.prefixes.proofs.BitLaws.{length_bits, get_or_bits}
 use Rattle.prefixes.proofs.bits.spell_bits.Goals as goal
 
 pub push-requires : goal.push-requires
@@ -15,6 +15,6 @@ loop-i-preserved c =
     let i = c.loop-i.i in
     let h : i < c.args.width = omega arith in
     let more = take_more b i 0 (let e : i < length b = omega (arith, length_bits c.args.width c.args.value) in e) in
-    let bit = get_d_bits c.args.width c.args.value i h in
+    let bit = get_or_bits c.args.width c.args.value i h in
     let inv = c.loop-i.invariant in
     c.push.ensures ∙ (rw (inv, more, bit))
