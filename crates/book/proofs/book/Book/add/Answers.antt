@@ -22,4 +22,13 @@ invariant_of-self c =
     let gaps = apart_pushed es fs c.args.entry now.apart c.requires.1 (omega (arith, len, n, c.push.new.self.ok.0)) old last in
     let waiting = none_before_pushed now.earliest c.min-self.result es fs c.args.entry now.waiting (omega (arith, c.min-self.ensures)) (omega (arith, c.min-self.ensures)) (omega (arith, len, n, c.push.new.self.ok.0)) old last in
     let P : List Entry → Type 0 = λ xs. Reached now.keys (vec_items c.note-self.new.slots) xs (length xs) in
-    let all = subst P c.as_slice.ensures.value c.note-self.ensures.later.reached in record { room = omega (arith, more.capacity, now.room); few = omega (arith, len, c.requires.0); long = c.note-self.ensures.len; counted = c.note-self.ensures.later.counted; reached = (λ k d l. all k d (omega (arith, l))); apart = gaps; waiting = waiting }
+    let all = subst P c.as_slice.ensures.value c.note-self.ensures.later.reached in
+    record {
+      room = omega (arith, more.capacity, now.room);
+      few = omega (arith, len, c.requires.0);
+      long = c.note-self.ensures.len;
+      counted = c.note-self.ensures.later.counted;
+      reached = (λ k d l. all k d (omega (arith, l)));
+      apart = gaps;
+      waiting = waiting;
+    }

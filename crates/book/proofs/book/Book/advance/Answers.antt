@@ -41,7 +41,15 @@ invariant_of-self c =
     let D : Entry → Type 0 = λ e. c.min-self.result ≤ e.deadline in
     let low = subst D read (omega (arith, c.min-self.ensures)) in
     let stays : Held es x.flow i = (held.0, λ d. held.1 d ∙ sym same) in
-    record { room = now.room; few = now.few; long = now.long; counted = now.counted; reached = reached_set es i x stays now.keys (vec_items now.slots) (vec_len now.entries) now.reached; apart = apart_set es i x stays now.apart; waiting = none_before_set now.earliest c.min-self.result es i x held.0 now.waiting (omega (arith, c.min-self.ensures)) low }
+    record {
+      room = now.room;
+      few = now.few;
+      long = now.long;
+      counted = now.counted;
+      reached = reached_set es i x stays now.keys (vec_items now.slots) (vec_len now.entries) now.reached;
+      apart = apart_set es i x stays now.apart;
+      waiting = none_before_set now.earliest c.min-self.result es i x held.0 now.waiting (omega (arith, c.min-self.ensures)) low;
+    }
 
 pub returns-in_default : goal.returns-in_default
 returns-in_default c = record {

@@ -12,7 +12,15 @@ invariant_of-self c =
     let i = c.in-Some.i in
     let x = c.args.entry in
     let held = c.in-Some.ensures.result in
-    record { room = now.room; few = now.few; long = now.long; counted = now.counted; reached = reached_set es i x held now.keys (vec_items now.slots) (vec_len now.entries) now.reached; apart = apart_set es i x held now.apart; waiting = none_before_set now.earliest c.min-self.result es i x held.0 now.waiting (omega (arith, c.min-self.ensures)) (omega (arith, c.min-self.ensures)) }
+    record {
+      room = now.room;
+      few = now.few;
+      long = now.long;
+      counted = now.counted;
+      reached = reached_set es i x held now.keys (vec_items now.slots) (vec_len now.entries) now.reached;
+      apart = apart_set es i x held now.apart;
+      waiting = none_before_set now.earliest c.min-self.result es i x held.0 now.waiting (omega (arith, c.min-self.ensures)) (omega (arith, c.min-self.ensures));
+    }
 
 pub returns-in-Some : goal.returns-in-Some
 returns-in-Some c =

@@ -20,7 +20,16 @@ invariant_of-self c =
     let gaps = apart_swapped es fs c.args.number now.apart len moved kept in
     let waiting = none_before_swapped es fs c.args.number now.apart len moved kept now.earliest now.waiting in
     let P : List Entry → Type 0 = λ xs. Reached now.keys (vec_items c.note-self.new.slots) xs (length xs) in
-    let all = subst P c.as_slice.ensures.value c.note-self.ensures.later.reached in record { room = omega (arith, left.capacity, now.room); few = omega (arith, left.len, now.few); long = c.note-self.ensures.len; counted = c.note-self.ensures.later.counted; reached = (λ k d l. all k d (omega (arith, l))); apart = gaps; waiting = waiting }
+    let all = subst P c.as_slice.ensures.value c.note-self.ensures.later.reached in
+    record {
+      room = omega (arith, left.capacity, now.room);
+      few = omega (arith, left.len, now.few);
+      long = c.note-self.ensures.len;
+      counted = c.note-self.ensures.later.counted;
+      reached = (λ k d l. all k d (omega (arith, l)));
+      apart = gaps;
+      waiting = waiting;
+    }
 
 pub invariant_of-self-else-number-len : goal.invariant_of-self-else-number-len
 invariant_of-self-else-number-len c =
@@ -40,4 +49,12 @@ invariant_of-self-else-number-len c =
     let w : k + 1 < vec_len now.entries = omega (arith, left.len) in
     let ne : (k ≡ c.args.number → ⊥) = (λ z. omega (arith, left.len, c.if-number-len.false, c.len.ensures)) in
     reached_at now.keys (vec_items now.slots) es fs k d (ap (λ (e : Entry). e.flow) (left.by_index.1 k d ne w)) (now.reached k d (omega arith))) in
-    record { room = omega (arith, left.capacity, now.room); few = omega (arith, left.len, now.few); long = now.long; counted = now.counted; reached = all; apart = gaps; waiting = waiting }
+    record {
+      room = omega (arith, left.capacity, now.room);
+      few = omega (arith, left.len, now.few);
+      long = now.long;
+      counted = now.counted;
+      reached = all;
+      apart = gaps;
+      waiting = waiting;
+    }

@@ -32,4 +32,12 @@ invariant_of-result c =
     let a = c.in_ok-lows.ensures in
     let b = c.in_ok-pasts.ensures in
     let lows : vec_items c.push_reserved.new.self ≡ 0 ∷ [] = c.push_reserved.ensures.items ∙ ap (λ (l : List ℕ). l ++ 0 ∷ []) a.items in
-    let pasts : vec_items c.push_reserved-2.new.self ≡ 4294967296 ∷ [] = c.push_reserved-2.ensures.items ∙ ap (λ (l : List ℕ). l ++ 4294967296 ∷ []) b.items in record { begun = lows ∙ ap (map (low 32)) (sym one); ended = pasts ∙ ap (map (past 32)) (sym one); room = (omega (arith, c.push_reserved.ensures.capacity, a.capacity), omega (arith, c.push_reserved-2.ensures.capacity, b.capacity)); some = (c.divide-count.ensures.some, omega (arith, c.divide-count.ensures.within), c.divide-count.ensures.first); padded = ∣ c.divide-count.ensures.padded ∣₁; stretched = ∣ stretched_same _ (held t) c.divide-count.new.starts c.divide-count.new.answers c.divide-count.result (sym c.as_slice.ensures) c.divide-count.ensures.stretched ∣₁ }
+    let pasts : vec_items c.push_reserved-2.new.self ≡ 4294967296 ∷ [] = c.push_reserved-2.ensures.items ∙ ap (λ (l : List ℕ). l ++ 4294967296 ∷ []) b.items in
+    record {
+      begun = lows ∙ ap (map (low 32)) (sym one);
+      ended = pasts ∙ ap (map (past 32)) (sym one);
+      room = (omega (arith, c.push_reserved.ensures.capacity, a.capacity), omega (arith, c.push_reserved-2.ensures.capacity, b.capacity));
+      some = (c.divide-count.ensures.some, omega (arith, c.divide-count.ensures.within), c.divide-count.ensures.first);
+      padded = ∣ c.divide-count.ensures.padded ∣₁;
+      stretched = ∣ stretched_same _ (held t) c.divide-count.new.starts c.divide-count.new.answers c.divide-count.result (sym c.as_slice.ensures) c.divide-count.ensures.stretched ∣₁;
+    }

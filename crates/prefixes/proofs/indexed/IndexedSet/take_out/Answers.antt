@@ -62,4 +62,12 @@ divide-self-requires c =
 pub invariant_of-self : goal.invariant_of-self
 invariant_of-self c =
     let s = c.args.self.now in
-    let t = c.take_out.new.self in record { begun = lows_then c; ended = pasts_then c; room = (omega (arith, c.remove.ensures.capacity, s.room.0), omega (arith, c.remove-2.ensures.capacity, s.room.1)); some = (c.divide-self.ensures.some, omega (arith, c.divide-self.ensures.within), c.divide-self.ensures.first); padded = ∣ c.divide-self.ensures.padded ∣₁; stretched = ∣ stretched_same _ (held t) c.divide-self.new.starts c.divide-self.new.answers c.divide-self.result (sym c.as_slice.ensures) c.divide-self.ensures.stretched ∣₁ }
+    let t = c.take_out.new.self in
+    record {
+      begun = lows_then c;
+      ended = pasts_then c;
+      room = (omega (arith, c.remove.ensures.capacity, s.room.0), omega (arith, c.remove-2.ensures.capacity, s.room.1));
+      some = (c.divide-self.ensures.some, omega (arith, c.divide-self.ensures.within), c.divide-self.ensures.first);
+      padded = ∣ c.divide-self.ensures.padded ∣₁;
+      stretched = ∣ stretched_same _ (held t) c.divide-self.new.starts c.divide-self.new.answers c.divide-self.result (sym c.as_slice.ensures) c.divide-self.ensures.stretched ∣₁;
+    }

@@ -20,7 +20,11 @@ invariant_of-self c =
     let j = c.in-Stored.at in
     let h : j < length (keys_of s) = c.in-Stored.ensures.0 in
     let a = length-remove (rows_of s) j (omega (arith, s.level)) in
-    let b = length-remove (keys_of s) j h in record { level = omega (arith, ap length c.remove.ensures.items, ap length c.take_out.ensures, s.level); room = omega (arith, c.remove.ensures.capacity, s.room) }
+    let b = length-remove (keys_of s) j h in
+    record {
+      level = omega (arith, ap length c.remove.ensures.items, ap length c.take_out.ensures, s.level);
+      room = omega (arith, c.remove.ensures.capacity, s.room);
+    }
 
 pub returns-then-not-serves : goal.returns-then-not-serves
 returns-then-not-serves c =

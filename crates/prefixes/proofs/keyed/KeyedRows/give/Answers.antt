@@ -16,7 +16,11 @@ invariant_of-self c =
     let items = c.insert.ensures.items ∙ cond-true (is_ok c.insert.result) _ _ ok in
     let h : m ≤ length (keys_of s) = c.in-Vacant.ensures.0 in
     let a = length-insert (rows_of s) m c.index-row.result.now (omega (arith, s.level)) in
-    let b = length-insert (keys_of s) m (spelled c.in-Some.prefix) h in record { level = omega (arith, ap length items, ap length c.put.ensures, s.level); room = omega (arith, c.insert.ensures.capacity, s.room) }
+    let b = length-insert (keys_of s) m (spelled c.in-Some.prefix) h in
+    record {
+      level = omega (arith, ap length items, ap length c.put.ensures, s.level);
+      room = omega (arith, c.insert.ensures.capacity, s.room);
+    }
 
 pub returns-in-Vacant : goal.returns-in-Vacant
 returns-in-Vacant c =

@@ -10,7 +10,11 @@ pub invariant_of-self : goal.invariant_of-self
 invariant_of-self g c =
     let rows = c.args.self.now.rows in
     let new = c.put_each.new.rows in
-    let kept : length new ≡ length (vec_items rows) = c.put_each.auto.rows ∙ ap length c.deref_mut.ensures.value in record { level = ap length (with_items_is rows new (omega arith)) ∙ kept ∙ c.args.self.now.level; room = c.args.self.now.room }
+    let kept : length new ≡ length (vec_items rows) = c.put_each.auto.rows ∙ ap length c.deref_mut.ensures.value in
+    record {
+      level = ap length (with_items_is rows new (omega arith)) ∙ kept ∙ c.args.self.now.level;
+      room = c.args.self.now.room;
+    }
 
 pub returns : goal.returns
 returns g c =
