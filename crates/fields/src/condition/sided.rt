@@ -7,7 +7,7 @@ ghost use Rattle.std.proofs.Common.{rules};
 use crate::condition::plain::Plain;
 use crate::condition::{Condition, Test};
 
-#[derive(Clone, Copy)]
+#[derive(Clone, Copy, PartialEq, Eq, Debug)]
 pub enum Sense {
     Plain,
     Inverted,

@@ -1,5 +1,5 @@
 // A TCP or UDP port.
-#[derive(Clone, Copy)]
+#[derive(Clone, Copy, PartialEq, Eq, Debug)]
 pub struct Port {
     pub number: u16,
 }

@@ -1,5 +1,5 @@
 // The protocol number of a packet.
-#[derive(Clone, Copy)]
+#[derive(Clone, Copy, PartialEq, Eq, Debug)]
 pub struct Protocol {
     pub number: u8,
 }
