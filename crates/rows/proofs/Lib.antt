@@ -1,4 +1,5 @@
 mod Bit
 mod Words
+mod Calls
 mod Rows
 pub mod Listed

@@ -2,7 +2,7 @@
 use Rattle.std.proofs.Common.{◌≡◌, ℕ, suc, ◌+◌, ◌-◌, ◌*◌, ◌/◌, ◌%◌, ◌^◌, ◌<◌, ◌≤◌, min, Bool, true, false, cond, eqb, ltb, List, length, get_or, set, replicate, sym, refl, ap, ◌∙◌, subst, ⊎_elim, arith}
 use lib.Count.{count_leading_zeros, leading_top}
 use Rattle.std.proofs.lemmas.Bool.Decides.{nat_tests}
-use Rattle.std.proofs.lemmas.Bool.{cases_eq, cases_lt, cases_order, lt-ltb, le-ltb, cond-true, cond-false, cond_above, ne_eqb}
+use Rattle.std.proofs.lemmas.Bool.{cases_eq, cases_lt, cases_order, lt-ltb, le-ltb, cond-true, cond-false, ne_eqb}
 use Rattle.std.proofs.lemmas.List.{get_or_past, get_or-set_same, get_or-set_other, get_or-replicate, length-replicate}
 use Rattle.rows.specs.Bits.{bit, top, at, put_in, taken_out, joined_out, after_last, before_first}
 use Rattle.rows.proofs.Bit.{bit_of_zero, bit_past, bit_top}
@@ -47,9 +47,6 @@ upward_more F f ws k v h inv new i = ⊎_elim same other (cases_eq (i / 64) k)
     other : (i / 64 ≡ k → ⊥) → at (set ws k v) i ≡ cond (ltb i (64 * (k + 1))) (F i) (f i)
     other n = let a = at_kept ws k v i n in let b = inv i in grind (arith, nat_tests)
 
-pub upward_none : (F f : ℕ → Bool) (ws : List ℕ) → ((i : ℕ) → at ws i ≡ f i) → Upward F f ws 0
-upward_none F f ws e i = e i ∙ cond_above i 0 (F i) (f i) (f i) (omega arith) refl
-
 -- at the end, where F and f say the same past the last word
 pub upward_all : (F f : ℕ → Bool) (ws : List ℕ) (k i : ℕ) → (64 * k ≤ i → f i ≡ F i) → Upward F f ws k → at ws i ≡ F i
 upward_all F f ws k i past inv = inv i ∙ ⊎_elim
@@ -61,22 +58,26 @@ upward_all F f ws k i past inv = inv i ∙ ⊎_elim
 ahead : (F f : ℕ → Bool) (ws : List ℕ) (k i : ℕ) → 64 * k ≤ i → Upward F f ws k → at ws i ≡ f i
 ahead F f ws k i l inv = inv i ∙ cond-false (ltb i (64 * k)) (F i) (f i) (le-ltb i (64 * k) l)
 
--- a loop that joins each word of ws with the word of os, by an operation op that is b at each place
-pub joined_more : (b : Bool → Bool → Bool) (f g : ℕ → Bool) (ws os : List ℕ) (k v : ℕ) → k < length ws → ((i : ℕ) → at os i ≡ g i)
-    → ((r : ℕ) → r < 64 → top v r ≡ b (top (get_or ws k 0) r) (top (get_or os k 0) r))
-    → Upward (λ i. b (f i) (g i)) f ws k → Upward (λ i. b (f i) (g i)) f (set ws k v) (k + 1)
-joined_more b f g ws os k v h o new inv = upward_more (λ i. b (f i) (g i)) f ws k v h inv
-    (λ r l. let n = new r l in
-    let p = at_place ws k r (64 * k + r) l refl in
-    let q = at_place os k r (64 * k + r) l refl in
-    let d = ahead (λ i. b (f i) (g i)) f ws k (64 * k + r) (omega arith) inv in
-    let e = o (64 * k + r) in
-    cc)
+-- a row of which each word is what F says, where F is false past the last one
+pub at_each : (F : ℕ → Bool) (ws : List ℕ) → length ws ≡ 8 → ((i : ℕ) → 512 ≤ i → F i ≡ false)
+    → ((k r : ℕ) → k < 8 → r < 64 → top (get_or ws k 0) r ≡ F (64 * k + r)) → (i : ℕ) → at ws i ≡ F i
+at_each F ws l past new i = ⊎_elim
+    (λ h. let r : i % 64 < 64 = omega arith in
+    let e : 64 * (i / 64) + i % 64 ≡ i = omega arith in
+    at_place ws (i / 64) (i % 64) i r (omega arith) ∙ new (i / 64) (i % 64) (omega arith) r ∙ ap F e)
+    (λ h. at_past ws i (omega arith) ∙ sym (past i h))
+    (cases_lt i 512)
 
-pub joined_all : (b : Bool → Bool → Bool) (ws os us : List ℕ) (k i : ℕ) → b false false ≡ false → length ws ≤ k → length os ≤ k
-    → Upward (λ i. b (at ws i) (at os i)) (at ws) us k → at us i ≡ b (at ws i) (at os i)
-joined_all b ws os us k i z h o inv = upward_all (λ i. b (at ws i) (at os i)) (at ws) us k i
-    (λ l. let p = at_past ws i (omega arith) in let q = at_past os i (omega arith) in cc) inv
+-- two rows joined word by word, by an operation that is b at each place
+pub joined : (b : Bool → Bool → Bool) (ws os us : List ℕ) → b false false ≡ false → length ws ≡ 8 → length os ≡ 8 → length us ≡ 8
+    → ((k r : ℕ) → k < 8 → r < 64 → top (get_or us k 0) r ≡ b (top (get_or ws k 0) r) (top (get_or os k 0) r))
+    → (i : ℕ) → at us i ≡ b (at ws i) (at os i)
+joined b ws os us z l m n new = at_each (λ i. b (at ws i) (at os i)) us n
+    (λ i h. let p = at_past ws i (omega arith) in let q = at_past os i (omega arith) in cc)
+    (λ k r h e. let p = at_place ws k r (64 * k + r) e refl in
+    let q = at_place os k r (64 * k + r) e refl in
+    let t = new k r h e in
+    cc)
 
 -- one place on, across the end of a word
 next_place : (ws : List ℕ) (k r : ℕ) → r < 64 → before_first (top (get_or ws k 0)) (top (get_or ws (k + 1) 0)) r ≡ at ws (64 * k + r + 1)
@@ -200,12 +201,9 @@ out_all f g p k i h e = let a = e i in let b = e (i + 1) in grind (arith, nat_te
 abbrev pub Clear : List ℕ → ℕ → Type 0
 Clear ws k = (i : ℕ) → i < 64 * k → at ws i ≡ false
 
-pub clear_more : (ws : List ℕ) (k : ℕ) → get_or ws k 0 ≡ 0 → Clear ws k → Clear ws (k + 1)
+pub clear_words : (ws : List ℕ) (k : ℕ) → ((j : ℕ) → j < k → get_or ws j 0 ≡ 0) → Clear ws k
 unfolding at
-clear_more ws k z inv i h = ⊎_elim
-    (λ e. ap (λ x. top x (i % 64)) (ap (λ x. get_or ws x 0) e ∙ z) ∙ bit_of_zero (63 - i % 64))
-    (λ n. inv i (omega arith))
-    (cases_eq (i / 64) k)
+clear_words ws k zero i h = ap (λ x. top x (i % 64)) (zero (i / 64) (omega arith)) ∙ bit_of_zero (63 - i % 64)
 
 pub clear_all : (ws : List ℕ) (k : ℕ) → length ws ≡ k → Clear ws k → (i : ℕ) → at ws i ≡ false
 clear_all ws k e inv i = ⊎_elim (inv i) (λ l. at_past ws i (omega arith)) (cases_lt i (64 * k))

@@ -1,16 +1,17 @@
 // A row of bits, one for each of 512 places. Place 0 is the most significant bit of word 0.
-ghost use Rattle.std.specs.Prelude.{◌≡◌, ℕ, ◌+◌, ◌<◌, ◌≤◌, min, true, false, not, ◌&&◌, MatchBool, MatchOption, nat_lt, slice_index};
+ghost use Rattle.std.specs.Prelude.{◌≡◌, ℕ, ◌+◌, ◌^◌, ◌<◌, ◌≤◌, min, true, false, not, ◌&&◌, MatchBool, MatchOption, length, nat_lt, slice_index};
 ghost use Rattle.rows.specs.Bits.{differs};
 ghost use Rattle.rows.specs.Shown.{shown};
 ghost use Rattle.rows.specs.Tables.{Put, Out};
 
 use crate::word;
+use std::array;
 
 const WORDS: usize = 8;
 
 pub const PLACES: usize = 512;
 
-#[derive(Clone, Copy)]
+#[derive(Clone, Copy, PartialEq, Eq, Debug)]
 pub struct Row {
     words: [u64; 8],
 }
@@ -27,11 +28,9 @@ impl Row {
     pub fn ones(n: usize) -> Self
         ensures { (i : ℕ) → shown result i ≡ nat_lt i (min n 512) }
     {
-        let mut words = [0; WORDS];
-        for k in 0..WORDS {
-            words[k] = word::leading_ones(n.saturating_sub(64 * k).min(64) as u32);
+        Row {
+            words: array::from_fn(|k| word::leading_ones(n.saturating_sub(64 * k).min(64) as u32)),
         }
-        Row { words }
     }
 
     // The eight words, that of the first 64 places first.
@@ -60,6 +59,7 @@ impl Row {
             return;
         }
         let first = place / 64;
+        // By index: each word takes in a bit of its neighbour, which an iterator over the words cannot show.
         for k in (first + 1..WORDS).rev() {
             self.words[k] = word::back_by_one(self.words[k], self.words[k - 1]);
         }
@@ -79,6 +79,7 @@ impl Row {
             (place % 64) as u32,
             self.word_after(first),
         );
+        // By index, as in `insert`.
         for k in first + 1..WORDS {
             self.words[k] = word::forward_by_one(self.words[k], self.word_after(k));
         }
@@ -86,36 +87,40 @@ impl Row {
 
     // The word behind word k, or zero where that is the last.
     fn word_after(&self, k: usize) -> u64
+        requires { k < 8 }
         ensures { result ≡ slice_index self.now.words (k + 1) }
     {
-        if k < WORDS - 1 { self.words[k + 1] } else { 0 }
+        self.words.get(k + 1).copied().unwrap_or(0)
     }
 
     // Keeps the ones that `other` has too.
     pub fn retain(&mut self, other: &Row)
         ensures { (i : ℕ) → shown self.new i ≡ (shown self.old i && shown other.now i) }
     {
-        for k in 0..WORDS {
-            self.words[k] &= other.words[k];
-        }
+        self.combine(other, |own, others| own & others);
     }
 
     // Keeps the ones that `other` has not.
     pub fn clear(&mut self, other: &Row)
         ensures { (i : ℕ) → shown self.new i ≡ (shown self.old i && not (shown other.now i)) }
     {
-        for k in 0..WORDS {
-            self.words[k] &= !other.words[k];
-        }
+        self.combine(other, |own, others| own & !others);
     }
 
     // Turns each place over at which `other` has a one.
     pub fn flip(&mut self, other: &Row)
         ensures { (i : ℕ) → shown self.new i ≡ differs (shown self.old i) (shown other.now i) }
     {
-        for k in 0..WORDS {
-            self.words[k] ^= other.words[k];
-        }
+        self.combine(other, |own, others| own ^ others);
+    }
+
+    // Replaces each word by what `join` makes of it and the other row's.
+    fn combine<F: Fn(u64, u64) -> u64>(&mut self, other: &Row, join: F)
+        requires { F.IsAlwaysCallable join }
+        ensures long { length self.new.words ≡ 8 }
+        ensures each { (k : ℕ) → k < 8 → (slice_index other.now.words k < 2 ^ 64) × F.post join (slice_index self.old.words k) (slice_index other.now.words k) (slice_index self.new.words k) }
+    {
+        self.words = array::from_fn(|k| join(self.words[k], other.words[k]));
     }
 
     // Whether a one remains.
@@ -129,11 +134,7 @@ impl Row {
     pub fn first(&self) -> Option<usize>
         ensures { MatchOption result ((i : ℕ) → shown self.now i ≡ false) (λ p. (shown self.now p ≡ true) × ((i : ℕ) → i < p → shown self.now i ≡ false)) }
     {
-        for (k, word) in self.words.iter().enumerate() {
-            if *word != 0 {
-                return Some(64 * k + word.leading_zeros() as usize);
-            }
-        }
-        None
+        let k = self.words.iter().position(|word| *word != 0)?;
+        Some(64 * k + self.words[k].leading_zeros() as usize)
     }
 }

@@ -1,17 +1,18 @@
-use Rattle.std.proofs.Common.{ℕ, ◌-◌, ◌&&◌, get_or, refl, arith}
+use Rattle.std.proofs.Common.{◌≡◌, ℕ, ◌-◌, ◌&&◌, List, slice_index, refl, ap, ◌∙◌, rules, arith}
 use lib.Bits.{bit_and}
-use Rattle.rows.specs.Bits.{at}
+use Rattle.rows.specs.Bits.{top}
 use Rattle.rows.proofs.Bit.{bit_of_and}
-use Rattle.rows.proofs.Rows.{joined_more, joined_all}
+use Rattle.rows.proofs.Rows.{joined}
 use Rattle.rows.proofs.row.Row.retain.Goals as goal
 
-pub loop-k-preserved : goal.loop-k-preserved
-loop-k-preserved c =
-    let x : ℕ = get_or c.loop-k.self.words c.loop-k.k 0 in
-    let y : ℕ = get_or c.args.other.now.words c.loop-k.k 0 in
-    joined_more (λ a b. a && b) (at c.args.self.now.words) (at c.args.other.now.words) c.loop-k.self.words
-    c.args.other.now.words c.loop-k.k (bit_and x y) (omega arith) (λ i. refl) (λ r h. bit_of_and x y (63 - r)) c.loop-k.invariant
-
 pub returns : goal.returns
-returns c = λ i. joined_all (λ a b. a && b) c.args.self.now.words c.args.other.now.words c.loop-k.self.words c.loop-k.k i refl
-    (omega arith) (omega arith) c.loop-k.invariant
+returns c =
+    let ws : List ℕ = c.args.self.now.words in
+    let os : List ℕ = c.args.other.now.words in
+    let us : List ℕ = c.combine.new.self.words in
+    joined (λ a b. a && b) ws os us refl (omega arith) (omega arith) c.combine.ensures.long
+    (λ k r h e. let t = c.combine.ensures.each k h in
+    let x : ℕ = slice_index ws k in
+    let y : ℕ = slice_index os k in
+    let q : slice_index us k ≡ bit_and x y = search rules in
+    ap (λ z. top z r) q ∙ bit_of_and x y (63 - r))

@@ -1,7 +1,0 @@
-use Rattle.std.proofs.Common.{◌&&◌}
-use Rattle.rows.specs.Bits.{at}
-use Rattle.rows.proofs.Rows.{Upward}
-use Rattle.rows.proofs.row.Row.retain.Given as goal
-
-abbrev pub invariant-loop-k : goal.invariant-loop-k
-invariant-loop-k l = Upward (λ i. (at l.initial.self.words i && at l.other.words i)) (at l.initial.self.words) l.self.words l.k
