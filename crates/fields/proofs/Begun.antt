@@ -1,20 +1,16 @@
--- Two strings compared symbol by symbol.
-use Rattle.std.proofs.Common.{◌≡◌, ℕ, ◌+◌, ◌<◌, ◌≤◌, Bool, true, false, cond, eqb, List, [], ◌∷◌, length, get_or, drop, refl, ap, arith}
+-- The library's comparisons of slices, as the comparisons of strings.
+use Rattle.std.proofs.Common.{◌≡◌, ℕ, eqb, List, [], ◌∷◌, length, take, refl, arith}
+use Rattle.std.specs.Cmp.Lexicographic.{pointwise}
 use Rattle.std.proofs.lemmas.Bool.Decides.{nat_tests}
-use Rattle.std.proofs.lemmas.List.{drop_more, drop_all}
-use Rattle.fields.specs.Strings.{begins}
+use Rattle.fields.specs.Strings.{begins, same}
 
-pub begins_more : (p s : List ℕ) (i : ℕ) (b : Bool) → i < length p → i < length s → eqb (get_or p i 0) (get_or s i 0) ≡ b
-    → begins (drop i p) (drop i s) ≡ cond b (begins (drop (i + 1) p) (drop (i + 1) s)) false
-begins_more p s i b l h e =
-    let f = drop_more p i 0 l in
-    let g = drop_more s i 0 h in
-    rw (f, g, e)
+pub equal_same : (p s : List ℕ) → pointwise eqb p s ≡ same p s
+equal_same [] [] = refl
+equal_same [] (y ∷ s) = grind (arith, nat_tests)
+equal_same (x ∷ p) [] = grind (arith, nat_tests)
+equal_same (x ∷ p) (y ∷ s) = let e = equal_same p s in grind (arith, nat_tests)
 
-pub begins_all : (p s : List ℕ) (i : ℕ) → length p ≤ i → begins (drop i p) (drop i s) ≡ true
-begins_all p s i h = ap (λ xs. begins xs (drop i s)) (drop_all i p h)
-
-pub longer_begins : (p s : List ℕ) → length s < length p → begins p s ≡ false
-longer_begins [] s h = absurd (omega arith)
-longer_begins (x ∷ p) [] h = refl
-longer_begins (x ∷ p) (y ∷ s) h = let e = longer_begins p s (omega arith) in grind (arith, nat_tests)
+pub front_begins : (p s : List ℕ) → pointwise eqb p (take (length p) s) ≡ begins p s
+front_begins [] s = refl
+front_begins (x ∷ p) [] = refl
+front_begins (x ∷ p) (y ∷ s) = let e = front_begins p s in grind (arith, nat_tests)

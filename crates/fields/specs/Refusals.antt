@@ -1,7 +1,11 @@
--- The numbers by which refusals are known.
-use Rattle.std.specs.Prelude.{ℕ}
+-- The numbers by which refusals are known, and how they are written.
+use Rattle.std.specs.Prelude.{ℕ, List, ◌++◌, codes}
+use Rattle.std.specs.Fmt.{decimal}
+use Rattle.fields.specs.declared.refusal.Part.{Part}
+use Rattle.fields.specs.declared.refusal.Part.TheVariants as part
 use Rattle.fields.specs.declared.refusal.Reason.{Reason}
 use Rattle.fields.specs.declared.refusal.Reason.TheVariants as reason
+use Rattle.fields.specs.declared.refusal.Refusal.{Refusal}
 
 abbrev pub reason_number : Reason → ℕ
 reason_number reason.InterfaceName = 1
@@ -17,3 +21,12 @@ reason_number reason.ListFull = 10
 reason_number reason.Condition = 11
 reason_number reason.IdentifierLimit = 12
 reason_number reason.ForeignTicket = 13
+
+abbrev pub part_text : Part → List ℕ
+part_text part.Columns = codes "columns"
+part_text part.Reader = codes "reader"
+part_text part.Filter = codes "filter"
+
+abbrev pub refusal_text : Refusal → List ℕ
+refusal_text r =
+    codes "refusal " ++ decimal (reason_number r.reason) ++ codes ", part " ++ part_text r.part ++ codes ", place " ++ decimal r.place

@@ -4,14 +4,14 @@ ghost use Rattle.fields.specs.Fields.{field_number};
 
 #[derive(Clone, Copy, PartialEq, Eq, Debug)]
 pub enum Field {
-    Source,
-    Destination,
-    Protocol,
-    SourcePort,
-    DestinationPort,
-    Flags,
-    Label,
-    Interface,
+    Source = 1,
+    Destination = 2,
+    Protocol = 3,
+    SourcePort = 4,
+    DestinationPort = 5,
+    Flags = 6,
+    Label = 7,
+    Interface = 8,
 }
 
 impl Field {
@@ -19,16 +19,7 @@ impl Field {
     pub fn number(&self) -> usize
         ensures result { result ≡ field_number self.now }
     {
-        match self {
-            Field::Source => 1,
-            Field::Destination => 2,
-            Field::Protocol => 3,
-            Field::SourcePort => 4,
-            Field::DestinationPort => 5,
-            Field::Flags => 6,
-            Field::Label => 7,
-            Field::Interface => 8,
-        }
+        *self as usize
     }
 }
 

@@ -29,18 +29,18 @@ pub type LabelCondition = Sided<Plain<LabelSet>>;
 pub type NameCondition = Sided<Plain<NamePattern>>;
 
 // The end of a packet's way that an address belongs to.
-#[derive(Clone, Copy)]
+#[derive(Clone, Copy, PartialEq, Eq, Debug)]
 pub enum End {
     Source,
     Destination,
 }
 
-impl End {
-    // The field that holds this end's address.
-    fn address_field(&self) -> Field
-        ensures result { result ≡ end_field self.now }
-    {
-        match self {
+// The field that holds this end's address.
+impl From<End> for Field {
+    ghost from_gives = { λ end field. field ≡ end_field end };
+
+    fn from(end: End) -> Field {
+        match end {
             End::Source => Field::Source,
             End::Destination => Field::Destination,
         }
@@ -51,7 +51,7 @@ impl End {
 pub fn address(end: End, bits: u32, length: u32, sense: Sense) -> Result<AddressCondition, Refusal>
     ensures result { MadeFrom (MadePrefix bits length) sense (end_field end) result }
 {
-    made(AddressPrefix::new(bits, length), sense, end.address_field())
+    made(AddressPrefix::new(bits, length), sense, Field::from(end))
 }
 
 // A protocol from 1 to 255.
@@ -86,36 +86,26 @@ pub fn labels(members: u8, sense: Sense) -> Result<LabelCondition, Refusal>
 pub fn whole_name(bytes: &[u8], sense: Sense) -> Result<NameCondition, Refusal>
     ensures result { MadeFrom (MadeWhole bytes.now) sense Field.Interface result }
 {
-    match InterfaceName::new(bytes) {
-        Ok(name) => made(Some(NamePattern::Whole(name)), sense, Field::Interface),
-        Err(_) => made(None, sense, Field::Interface),
-    }
+    let whole = InterfaceName::new(bytes).ok().map(NamePattern::Whole);
+    made(whole, sense, Field::Interface)
 }
 
 // The 0 to 14 bytes that an interface name begins with.
 pub fn name_beginning(bytes: &[u8], sense: Sense) -> Result<NameCondition, Refusal>
     ensures result { MadeFrom (MadeBeginning bytes.now) sense Field.Interface result }
 {
-    match NameBeginning::new(bytes) {
-        Some(beginning) => made(
-            Some(NamePattern::Beginning(beginning)),
-            sense,
-            Field::Interface,
-        ),
-        None => made(None, sense, Field::Interface),
-    }
+    let beginning = NameBeginning::new(bytes).map(NamePattern::Beginning);
+    made(beginning, sense, Field::Interface)
 }
 
 // The condition that states a lawful pattern, or the refusal where there is none.
 fn made<T: Test>(pattern: Option<T>, sense: Sense, field: Field) -> Result<Sided<Plain<T>>, Refusal>
     ensures result { result ≡ answer pattern sense field }
 {
-    match pattern {
-        Some(lawful) => Ok(Sided::stated(lawful, sense)),
-        None => Err(Refusal {
-            reason: Reason::Condition,
-            part: Part::Columns,
-            place: field.number(),
-        }),
-    }
+    let lawful = pattern.ok_or(Refusal {
+        reason: Reason::Condition,
+        part: Part::Columns,
+        place: field.number(),
+    })?;
+    Ok(Sided::stated(lawful, sense))
 }

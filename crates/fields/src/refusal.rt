@@ -1,44 +1,32 @@
 // Why a call was turned away: a reason, the part that found it, and a place.
-ghost use Rattle.std.specs.Prelude.{◌≡◌};
-ghost use Rattle.fields.specs.Refusals.{reason_number};
+ghost use Rattle.std.specs.Prelude.{◌≡◌, Some};
+ghost use Rattle.fields.specs.Refusals.{reason_number, part_text, refusal_text};
 
-// The reasons, in the order of their numbers from 1 to 13.
+use std::fmt;
+
+// The reasons, each with the number by which it is known.
 #[derive(Clone, Copy, PartialEq, Eq, Debug)]
 pub enum Reason {
-    InterfaceName,
-    Truncated,
-    Version,
-    HeaderLength,
-    TotalLength,
-    Checksum,
-    Payload,
-    PacketLimit,
-    Position,
-    ListFull,
-    Condition,
-    IdentifierLimit,
-    ForeignTicket,
+    InterfaceName = 1,
+    Truncated = 2,
+    Version = 3,
+    HeaderLength = 4,
+    TotalLength = 5,
+    Checksum = 6,
+    Payload = 7,
+    PacketLimit = 8,
+    Position = 9,
+    ListFull = 10,
+    Condition = 11,
+    IdentifierLimit = 12,
+    ForeignTicket = 13,
 }
 
 impl Reason {
     pub fn number(&self) -> u8
         ensures result { result ≡ reason_number self.now }
     {
-        match self {
-            Reason::InterfaceName => 1,
-            Reason::Truncated => 2,
-            Reason::Version => 3,
-            Reason::HeaderLength => 4,
-            Reason::TotalLength => 5,
-            Reason::Checksum => 6,
-            Reason::Payload => 7,
-            Reason::PacketLimit => 8,
-            Reason::Position => 9,
-            Reason::ListFull => 10,
-            Reason::Condition => 11,
-            Reason::IdentifierLimit => 12,
-            Reason::ForeignTicket => 13,
-        }
+        *self as u8
     }
 }
 
@@ -50,10 +38,33 @@ pub enum Part {
     Filter,
 }
 
+impl fmt::Display for Part {
+    ghost output = { λ part. Some (part_text part) };
+
+    fn fmt<W: fmt::Write>(&self, f: &mut fmt::Formatter<W>) -> fmt::Result {
+        match self {
+            Part::Columns => f.write_str("columns"),
+            Part::Reader => f.write_str("reader"),
+            Part::Filter => f.write_str("filter"),
+        }
+    }
+}
+
 // A refused call alters nothing.
 #[derive(Clone, Copy, PartialEq, Eq, Debug)]
 pub struct Refusal {
     pub reason: Reason,
     pub part: Part,
     pub place: usize,
+}
+
+impl fmt::Display for Refusal {
+    ghost output = { λ refusal. Some (refusal_text refusal) };
+
+    fn fmt<W: fmt::Write>(&self, f: &mut fmt::Formatter<W>) -> fmt::Result {
+        let number = self.reason.number();
+        let part = self.part;
+        let place = self.place;
+        write!(f, "refusal {number}, part {part}, place {place}")
+    }
 }

@@ -6,7 +6,8 @@ ghost use Rattle.std.proofs.Common.{rules};
 use crate::condition::{Condition, Test};
 
 // "Any", or a pattern of values. On an absent field no pattern holds.
-#[derive(Clone, Copy)]
+// No Option: its None would say that a condition is missing, and "any" is a condition that holds everywhere.
+#[derive(Clone, Copy, PartialEq, Eq, Debug)]
 pub enum Plain<T> {
     Any,
     Is(T),

@@ -14,7 +14,7 @@ pub enum Sense {
 }
 
 // On a present field the inverted condition holds exactly where the plain one does not; on an absent one it does not hold.
-#[derive(Clone, Copy)]
+#[derive(Clone, Copy, PartialEq, Eq, Debug)]
 pub struct Sided<K> {
     condition: K,
     inverted: bool,

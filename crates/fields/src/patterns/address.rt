@@ -4,7 +4,7 @@ ghost use Rattle.std.specs.Prelude.{◌≡◌, ◌-◌, ◌%◌, ◌^◌, ◌≤
 pub mod methods;
 
 // The first `length` bits of `bits`; the bits behind them are zero.
-#[derive(Clone, Copy)]
+#[derive(Clone, Copy, PartialEq, Eq, Debug)]
 pub struct AddressPrefix {
     bits: u32,
     length: u32,

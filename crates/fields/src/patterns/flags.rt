@@ -2,7 +2,7 @@
 ghost use Rattle.std.specs.Prelude.{◌≡◌, ◌<◌, MatchOption, bit_and};
 
 // The mask is below 64, and the wanted bits lie inside it.
-#[derive(Clone, Copy)]
+#[derive(Clone, Copy, PartialEq, Eq, Debug)]
 pub struct FlagsPattern {
     mask: u8,
     wanted: u8,

@@ -1,7 +1,7 @@
 // One protocol, from 1 to 255.
 ghost use Rattle.std.specs.Prelude.{◌≡◌, ◌<◌, MatchOption};
 
-#[derive(Clone, Copy)]
+#[derive(Clone, Copy, PartialEq, Eq, Debug)]
 pub struct ProtocolNumber {
     number: u8,
     ghost some: { 0 < number },

@@ -13,7 +13,7 @@ pub const ACK: u8 = 16;
 
 pub const URG: u8 = 32;
 
-#[derive(Clone, Copy)]
+#[derive(Clone, Copy, PartialEq, Eq, Debug)]
 pub struct Flags {
     bits: u8,
     ghost within: { bits < 64 },

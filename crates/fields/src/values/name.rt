@@ -5,7 +5,8 @@ ghost use Rattle.fields.specs.NameBytes.{name_byte};
 pub mod methods;
 
 // At most 15 name bytes.
-#[derive(Clone, Copy)]
+// An array and a length: a name is copied with each packet, and no call after the making of a column allocates.
+#[derive(Clone, Copy, PartialEq, Eq, Debug)]
 pub struct NameText {
     bytes: [u8; 15],
     length: usize,
@@ -13,7 +14,7 @@ pub struct NameText {
     ghost lawful: { (k : ℕ) → k < length → name_byte (slice_index bytes k) ≡ true },
 }
 
-#[derive(Clone, Copy)]
+#[derive(Clone, Copy, PartialEq, Eq, Debug)]
 pub struct InterfaceName {
     text: NameText,
     ghost some: { 0 < text.length },

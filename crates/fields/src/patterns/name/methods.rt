@@ -13,10 +13,8 @@ impl NameBeginning {
     pub(crate) fn new(bytes: &[u8]) -> Option<NameBeginning>
         ensures result { MatchOption result (text_fault 0 14 bytes.now ≢ None) (λ b. beginning_bytes b ≡ bytes.now) }
     {
-        match NameText::read(0, 14, bytes) {
-            Ok(text) => Some(NameBeginning { text }),
-            Err(_) => None,
-        }
+        let text = NameText::read(0, 14, bytes).ok()?;
+        Some(NameBeginning { text })
     }
 
     pub fn as_slice(&self) -> &[u8]
@@ -33,32 +31,8 @@ impl Test for NamePattern {
 
     fn passes_on(&self, value: InterfaceName) -> bool {
         match self {
-            NamePattern::Whole(name) => same_bytes(name.as_slice(), value.as_slice()),
-            NamePattern::Beginning(beginning) => begins_with(
-                beginning.as_slice(),
-                value.as_slice(),
-            ),
+            NamePattern::Whole(name) => name.as_slice() == value.as_slice(),
+            NamePattern::Beginning(beginning) => value.as_slice().starts_with(beginning.as_slice()),
         }
     }
-}
-
-// Whether `front` is how `whole` begins.
-fn begins_with(front: &[u8], whole: &[u8]) -> bool
-    ensures result { result ≡ begins front.now whole.now }
-{
-    if front.len() > whole.len() {
-        return false;
-    }
-    for i in 0..front.len() {
-        if front[i] != whole[i] {
-            return false;
-        }
-    }
-    true
-}
-
-fn same_bytes(one: &[u8], other: &[u8]) -> bool
-    ensures result { result ≡ same one.now other.now }
-{
-    one.len() == other.len() && begins_with(one, other)
 }

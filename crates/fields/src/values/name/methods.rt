@@ -21,13 +21,11 @@ impl NameText {
         if bytes.len() < low || bytes.len() > high {
             return Err(0);
         }
-        let mut text = [0; 15];
-        for i in 0..bytes.len() {
-            if !is_name_byte(bytes[i]) {
-                return Err(i);
-            }
-            text[i] = bytes[i];
+        if let Some(place) = bytes.iter().position(|byte| !is_name_byte(*byte)) {
+            return Err(place);
         }
+        let mut text = [0; 15];
+        text[..bytes.len()].copy_from_slice(bytes);
         Ok(NameText {
             bytes: text,
             length: bytes.len(),
@@ -46,14 +44,12 @@ impl InterfaceName {
     pub fn new(bytes: &[u8]) -> Result<InterfaceName, Refusal>
         ensures result { MadeName bytes.now result }
     {
-        match NameText::read(1, 15, bytes) {
-            Ok(text) => Ok(InterfaceName { text }),
-            Err(place) => Err(Refusal {
-                reason: Reason::InterfaceName,
-                part: Part::Reader,
-                place,
-            }),
-        }
+        let text = NameText::read(1, 15, bytes).map_err(|place| Refusal {
+            reason: Reason::InterfaceName,
+            part: Part::Reader,
+            place,
+        })?;
+        Ok(InterfaceName { text })
     }
 
     pub fn as_slice(&self) -> &[u8]

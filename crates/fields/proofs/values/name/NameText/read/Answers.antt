@@ -1,33 +1,29 @@
-use Rattle.std.proofs.Common.{◌≡◌, true, false, [], ◌∷◌, ◌++◌, length, get_or, take, sym, ap, ◌∙◌, arith, length-set}
-use Rattle.std.proofs.lemmas.List.{take_more, take_more_set, drop_all, take_all}
-use Rattle.fields.specs.NameBytes.{first_bad}
-use Rattle.fields.proofs.NamesRead.{bad_next, lawful_more, within_fault}
+use Rattle.std.proofs.Common.{◌≡◌, true, false, length, drop, take, replicate, ◌++◌, ap, ◌∙◌, tests, rules, arith}
+use Rattle.std.proofs.Math.Seq.{take-append_seam}
+use Rattle.std.proofs.lemmas.Iterator.{IsFirst-from_position, YieldsList-from_slice}
+use Rattle.fields.specs.NameBytes.{name_byte}
+use Rattle.fields.proofs.NamesRead.{first_bad_at, none_bad, within_fault}
 use Rattle.fields.proofs.values.name.NameText.read.Goals as goal
 
-pub returns-then-not-is_name_byte : goal.returns-then-not-is_name_byte
-returns-then-not-is_name_byte c = record {
-  result = within_fault c.args.low c.args.high c.args.bytes.now (omega arith) (omega arith) ∙ c.loop-i.invariant.1
-      ∙ bad_next c.args.bytes.now c.loop-i.i false (omega arith) (sym c.is_name_byte.ensures.result ∙ c.if-not-is_name_byte.true);
-}
-
-pub loop-i-preserved : goal.loop-i-preserved
-loop-i-preserved c = (
-  length-set c.loop-i.text c.loop-i.i _ ∙ c.loop-i.invariant.0,
-  c.loop-i.invariant.1
-      ∙ bad_next c.args.bytes.now c.loop-i.i true (omega arith) (sym c.is_name_byte.ensures.result ∙ c.if-not-is_name_byte.false),
-  take_more_set c.loop-i.text c.loop-i.i _ (omega (arith, c.loop-i.invariant.0))
-      ∙ ap (λ xs. xs ++ get_or c.args.bytes.now c.loop-i.i 0 ∷ []) c.loop-i.invariant.2
-      ∙ sym (take_more c.args.bytes.now c.loop-i.i 0 (omega arith)),
-  lawful_more c.loop-i.text c.loop-i.i _ (omega (arith, c.loop-i.invariant.0)) c.loop-i.invariant.3
-      (sym c.is_name_byte.ensures.result ∙ c.if-not-is_name_byte.false),
-)
+pub returns-in-Some : goal.returns-in-Some
+returns-in-Some c =
+    let bad = IsFirst-from_position _ _ _ (λ b. name_byte b ≡ false) (λ b. name_byte b ≡ true) c.in-Some.ensures.ran
+    (YieldsList-from_slice c.args.bytes.now cc) (λ x q k. search (rules, tests)) (λ x q k. search (rules, tests)) in
+    record {
+      result = within_fault c.args.low c.args.high c.args.bytes.now (omega arith) (omega arith)
+          ∙ first_bad_at c.args.bytes.now 0 c.in-Some.place c.in-Some.place (omega arith) bad.0 (λ j h. bad.2 j 0 (omega arith) h) (bad.1 0);
+    }
 
 pub returns : goal.returns
-returns c = record {
-  result = (
-    within_fault c.args.low c.args.high c.args.bytes.now (omega arith) (omega arith) ∙ c.loop-i.invariant.1
-        ∙ ap (λ xs. first_bad xs c.loop-i.i) (drop_all c.loop-i.i c.args.bytes.now (omega arith)),
-    (let e : length c.args.bytes.now ≡ c.loop-i.i = omega arith in
-        ap (λ n. take n c.loop-i.text) e ∙ c.loop-i.invariant.2 ∙ take_all c.loop-i.i c.args.bytes.now (omega arith)),
-  );
-}
+returns c =
+    let found = IsFirst-from_position _ _ c.position.result (λ b. name_byte b ≡ false) (λ b. name_byte b ≡ true) c.position.ensures.ran
+    (YieldsList-from_slice c.args.bytes.now cc) (λ x q k. search (rules, tests)) (λ x q k. search (rules, tests)) in
+    let good = rw c.in_default.is at found in
+    record {
+      result = (
+        within_fault c.args.low c.args.high c.args.bytes.now (omega arith) (omega arith)
+            ∙ none_bad c.args.bytes.now 0 (λ j h. good j 0 (omega arith) h),
+        ap (λ xs. take (length c.args.bytes.now) (xs ++ drop (length c.args.bytes.now) (replicate 15 0))) c.copy_from_slice.ensures.after
+            ∙ take-append_seam c.args.bytes.now (drop (length c.args.bytes.now) (replicate 15 0)),
+      );
+    }
