@@ -3,6 +3,7 @@
 
 pub mod address;
 mod bits;
+mod column;
 mod compare;
 mod indexed;
 mod keyed;
@@ -13,4 +14,3 @@ mod search;
 mod set;
 mod stretches;
 mod symbols;
-mod table;

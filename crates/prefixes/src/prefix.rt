@@ -11,7 +11,8 @@ pub(crate) mod address;
 pub(crate) mod name;
 
 // A pattern that asks how a value begins. Values and patterns are spelled as strings, and a value passes where the pattern's string is its front.
-pub(crate) trait Prefix: Test {
+// The trait is public for the columns' sake, whose type names it; its module is not, so no other crate can.
+pub trait Prefix: Test {
     ghost front: { Self → List ℕ };
 
     ghost spelling: { Self.Value → List ℕ };

@@ -5,7 +5,7 @@ mod methods;
 
 // A string of at most 130 symbols.
 #[derive(Clone, Copy)]
-pub(crate) struct Symbols {
+pub struct Symbols {
     bytes: [u8; 130],
     len: usize,
     ghost fits: { len ≤ 130 },
