@@ -1,9 +1,7 @@
--- What a place says of a string and a set.
-use Rattle.std.specs.Prelude.{◌≡◌, ℕ, ◌<◌, ◌≤◌, List, length}
+-- What the search for a string in a set answers: where it is stored, or else where it belongs.
+use Rattle.std.specs.Prelude.{◌≡◌, ℕ, ◌<◌, ◌≤◌, List, length, Ok, Err, Result}
 use Rattle.prefixes.specs.Stored.{at, Fits}
-use Rattle.prefixes.specs.declared.search.Place.{Place}
-use Rattle.prefixes.specs.declared.search.Place.TheVariants.{Stored, Vacant}
 
-abbrev pub Placed : List (List ℕ) → List ℕ → Place → Type 0
-Placed ss p (Stored i) = (i < length ss) × (at ss i ≡ p)
-Placed ss p (Vacant i) = (i ≤ length ss) × Fits ss p i
+abbrev pub Placed : List (List ℕ) → List ℕ → Result ℕ ℕ → Type 0
+Placed ss p (Ok i) = (i < length ss) × (at ss i ≡ p)
+Placed ss p (Err i) = (i ≤ length ss) × Fits ss p i

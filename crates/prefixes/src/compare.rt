@@ -1,6 +1,6 @@
 // Strings of symbols compared.
 ghost use Rattle.std.specs.Prelude.{◌≡◌, ◌≤◌};
-ghost use Rattle.fields.specs.Strings.{begins as front, same as alike};
+ghost use Rattle.fields.specs.Strings.{begins as front};
 ghost use Rattle.prefixes.specs.Strings.{ordered as in_order, common};
 
 // How many leading symbols the two share, of which `from` are known.
@@ -8,6 +8,7 @@ pub(crate) fn shared(p: &[u8], s: &[u8], from: usize) -> usize
     requires { from ≤ common p.now s.now }
     ensures { result ≡ common p.now s.now }
 {
+    // A count of symbols walked by hand: it is both where the next two lie and the answer.
     let mut at = from;
     while at < p.len() && at < s.len() && p[at] == s[at] {
         at += 1;
@@ -19,7 +20,7 @@ pub(crate) fn shared(p: &[u8], s: &[u8], from: usize) -> usize
 pub(crate) fn begins(p: &[u8], s: &[u8]) -> bool
     ensures { result ≡ front p.now s.now }
 {
-    shared(p, s, 0) == p.len()
+    s.starts_with(p)
 }
 
 // Whether `p`, which shares its first `at` symbols with `s`, is `s` or comes before it.
@@ -41,11 +42,4 @@ pub(crate) fn ordered(p: &[u8], s: &[u8]) -> bool
     ensures { result ≡ in_order p.now s.now }
 {
     precedes(p, s, shared(p, s, 0))
-}
-
-// Whether the two are one string.
-pub(crate) fn same(p: &[u8], s: &[u8]) -> bool
-    ensures { result ≡ alike p.now s.now }
-{
-    p.len() == s.len() && begins(p, s)
 }

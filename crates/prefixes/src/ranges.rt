@@ -20,8 +20,7 @@ pub(crate) fn range_of(string: &[u8]) -> Range
     let mut width = 32u32;
     let mut size = END;
     let mut low = 0u64;
-    for i in 0..string.len() {
-        let symbol = string[i];
+    for &symbol in string {
         if width == 0 || symbol > 1 {
             return Range {
                 low: low + size,

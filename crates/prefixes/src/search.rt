@@ -8,13 +8,6 @@ ghost use Rattle.prefixes.specs.Strings.{ordered as in_order};
 use crate::compare::{begins, ordered, precedes, shared};
 use crate::symbols::Symbols;
 
-// Where a string is stored, or where it belongs.
-#[derive(Clone, Copy)]
-pub(crate) enum Place {
-    Stored(usize),
-    Vacant(usize),
-}
-
 // How many of the stored strings do not come behind the key.
 // The key shares at least `below` symbols with the last string known not to, and `above`
 // with the first known to, so all strings between share the smaller number.
@@ -44,17 +37,17 @@ fn rank(stored: &[Symbols], key: &[u8]) -> usize
     low
 }
 
-// Where the string is stored, or where it belongs.
-pub(crate) fn locate(stored: &[Symbols], prefix: &[u8]) -> Place
+// Where the string is stored, or else where it belongs.
+pub(crate) fn locate(stored: &[Symbols], prefix: &[u8]) -> Result<usize, usize>
     requires { Ascending (strings stored.now) }
     ensures { Placed (strings stored.now) prefix.now result }
 {
     let count = rank(stored, prefix);
     let last = count - 1;
     if ordered(prefix, stored[last].as_slice()) {
-        Place::Stored(last)
+        Ok(last)
     } else {
-        Place::Vacant(count)
+        Err(count)
     }
 }
 

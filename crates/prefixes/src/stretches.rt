@@ -34,9 +34,7 @@ pub(crate) fn look_up(
     ensures { Longest (strings stored.now) (bits_of 32 key) result }
 {
     let mut at = 0;
-    let mut shift = 10;
-    while shift > 0 {
-        shift -= 1;
+    for shift in (0..10).rev() {
         let half = step(true, shift);
         at += step(starts[at + half] <= key, shift);
     }
@@ -97,15 +95,6 @@ fn until(stored: &[Symbols], lows: &[u64], pasts: &[u64], last: usize, answer: u
     past
 }
 
-// Makes all starts the end of the numbers.
-fn pad(starts: &mut [u64])
-    ensures { (t : ℕ) → t < length starts.old → slice_index starts.new t ≡ 4294967296 }
-{
-    for i in 0..starts.len() {
-        starts[i] = END;
-    }
-}
-
 // Divides the numbers of 32 bits into stretches with one answer, as far as there is room,
 // and says how many there are.
 pub(crate) fn divide(
@@ -132,7 +121,7 @@ pub(crate) fn divide(
     let mut last = 0;
     let mut start = 0;
     let mut count = 0;
-    pad(starts);
+    starts.fill(END);
     starts[0] = 0;
     while start < END && count + 1 < starts.len() {
         last = advance(stored, lows, last, start);

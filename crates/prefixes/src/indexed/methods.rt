@@ -10,7 +10,6 @@ ghost use Rattle.prefixes.specs.Stored.{Longest, Fits, Parent, strings};
 use super::IndexedSet;
 use crate::bits::spell_bits;
 use crate::ranges::{END, range_of};
-use crate::search::Place;
 use crate::set::{PrefixSet, ROOM};
 use crate::stretches;
 use crate::symbols::Symbols;
@@ -46,8 +45,8 @@ impl IndexedSet {
         })
     }
 
-    // Where the string is stored, or where it belongs.
-    pub(crate) fn locate(&self, prefix: &Symbols) -> Place
+    // Where the string is stored, or else where it belongs.
+    pub(crate) fn locate(&self, prefix: &Symbols) -> Result<usize, usize>
         ensures { Placed (kept self.now) (spelled prefix.now) result }
     {
         self.set.locate(prefix)

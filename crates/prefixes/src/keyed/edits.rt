@@ -1,7 +1,7 @@
-// A bit more or less in each row.
+// A bit more in each row.
 ghost use Rattle.std.specs.Prelude.{◌≡◌, ℕ, ◌<◌, length, slice_index_or};
 ghost use Rattle.std.specs.Option.{option_map};
-ghost use Rattle.rows.specs.Tables.{Put, Out};
+ghost use Rattle.rows.specs.Tables.{Put};
 ghost use Rattle.rows.specs.declared.row.Row.{Row};
 ghost use Rattle.prefixes.specs.Fronts.{covers as covers_all};
 ghost use Rattle.prefixes.specs.Spelled.{spelled};
@@ -31,17 +31,9 @@ pub(crate) fn insert_each(
     requires { length rows.old ≡ length stored.now }
     ensures { (k : ℕ) (d : Row) → k < length rows.old → Put place (covers_all (option_map spelled front.now) (at (strings stored.now) k)) (slice_index_or rows.old k d) (slice_index_or rows.new k d) }
 {
+    // By index, since nothing is known of rows that are written through a zip of them with the strings.
     for i in 0..rows.len() {
         let bit = covers(front, &stored[i]);
         rows[i].insert(place, bit);
-    }
-}
-
-// Takes `place` out of each row.
-pub(crate) fn remove_each(rows: &mut [Row], place: usize)
-    ensures { (k : ℕ) (d : Row) → k < length rows.old → Out place (slice_index_or rows.old k d) (slice_index_or rows.new k d) }
-{
-    for i in 0..rows.len() {
-        rows[i].remove(place);
     }
 }

@@ -9,11 +9,12 @@ ghost use Rattle.prefixes.specs.Keyed.{keys_of, RowsTold, Keys, KeysWith};
 ghost use Rattle.prefixes.specs.Spelled.{spelled};
 ghost use Rattle.prefixes.specs.Stored.{at as string_at};
 
-use super::{KeyedRows, edits};
+use super::KeyedRows;
+use super::edits::insert_each;
 use crate::indexed::IndexedSet;
-use crate::search::Place;
 use crate::set::ROOM;
 use crate::symbols::Symbols;
+use columns::table::remove_each;
 use rows::Row;
 use std::alloc::{AllocError, Global};
 
@@ -48,12 +49,11 @@ impl KeyedRows {
         ensures told { (fs : Fronts) → RowsTold self.old fs → Keys self.old fs → RowsTold self.new fs }
         ensures stored { (s : List ℕ) → has (keys_of self.new) s ≡ (names (option_map spelled front.now) s || has (keys_of self.old) s) }
     {
-        if let Some(prefix) = front {
-            if let Place::Vacant(at) = self.set.locate(prefix) {
-                let row = self.rows[self.set.longest(prefix)];
-                let _ = self.rows.insert(at, row);
-                self.set.put(at, *prefix);
-            }
+        let Some(prefix) = front else { return };
+        if let Err(at) = self.set.locate(prefix) {
+            let row = self.rows[self.set.longest(prefix)];
+            let _ = self.rows.insert(at, row);
+            self.set.put(at, *prefix);
         }
     }
 
@@ -62,7 +62,7 @@ impl KeyedRows {
         ensures told { (fs : Fronts) → place ≤ length fs → length fs < 512 → RowsTold self.old fs → RowsTold self.new (insert fs place (option_map spelled front.now)) }
         ensures keys { keys_of self.new ≡ keys_of self.old }
     {
-        edits::insert_each(&mut self.rows, self.set.as_slice(), place, front);
+        insert_each(&mut self.rows, self.set.as_slice(), place, front);
     }
 
     // Takes the condition at `place` out.
@@ -70,7 +70,7 @@ impl KeyedRows {
         ensures told { (fs : Fronts) → place < length fs → RowsTold self.old fs → RowsTold self.new (remove fs place) }
         ensures keys { keys_of self.new ≡ keys_of self.old }
     {
-        edits::remove_each(&mut self.rows, place);
+        remove_each(&mut self.rows, place);
     }
 
     // Whether the string at a place, which is not the empty one, is the front of a condition: then one covers it that does not cover its parent.
@@ -89,13 +89,13 @@ impl KeyedRows {
         ensures told { (fs : Fronts) → RowsTold self.old fs → RowsTold self.new fs }
         ensures stored { (fs : Fronts) → RowsTold self.old fs → KeysWith self.old (option_map spelled front.now) fs → Keys self.new fs }
     {
-        if let Some(prefix) = front {
-            if let Place::Stored(at) = self.set.locate(prefix) {
-                if at > 0 && !self.serves(at) {
-                    self.set.take_out(at);
-                    let _ = self.rows.remove(at);
-                }
-            }
+        let Some(prefix) = front else { return };
+        let Ok(at) = self.set.locate(prefix) else {
+            return
+        };
+        if at > 0 && !self.serves(at) {
+            self.set.take_out(at);
+            let _ = self.rows.remove(at);
         }
     }
 }

@@ -8,7 +8,6 @@ ghost use Rattle.prefixes.specs.Stored.{Longest, Fits, Parent, strings};
 
 use super::{PrefixSet, ROOM};
 use crate::search;
-use crate::search::Place;
 use crate::symbols::Symbols;
 use std::alloc::{AllocError, Global};
 
@@ -54,8 +53,8 @@ impl PrefixSet {
         self.links[at]
     }
 
-    // Where the string is stored, or where it belongs.
-    pub(crate) fn locate(&self, prefix: &Symbols) -> Place
+    // Where the string is stored, or else where it belongs.
+    pub(crate) fn locate(&self, prefix: &Symbols) -> Result<usize, usize>
         ensures { Placed (held self.now) (spelled prefix.now) result }
     {
         search::locate(&self.stored, prefix.as_slice())

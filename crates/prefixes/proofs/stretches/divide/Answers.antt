@@ -1,5 +1,5 @@
-use Rattle.std.proofs.Common.{◌+◌, ◌^◌, ◌<◌, length, sym, refl, ap, ◌∙◌, arith, length-set}
-use Rattle.std.proofs.lemmas.List.{nil_from_length, get_or-set_same, get_or-set_other}
+use Rattle.std.proofs.Common.{◌≡◌, ℕ, ◌+◌, ◌^◌, ◌<◌, List, length, get_or, sym, refl, ap, ◌∙◌, arith, length-set}
+use Rattle.std.proofs.lemmas.List.{nil_from_length, get_or-replicate, get_or-set_same, get_or-set_other}
 use Rattle.prefixes.specs.Stored.{strings, at}
 use Rattle.prefixes.specs.Ranges.{low}
 use Rattle.prefixes.proofs.StoredLaws.{length_strings}
@@ -11,15 +11,18 @@ pub loop-start-init : goal.loop-start-init
 loop-start-init c =
     let ss = strings c.args.stored.now in
     let n = length_strings c.args.stored.now in
-    let z = get_or-set_same c.pad.new.starts 0 0 0 (omega (arith, c.pad.auto.starts)) in
-    let long = length-set c.pad.new.starts 0 0 in
+    let full = c.fill.ensures.after (λ y e. e) in
+    let padded : (t : ℕ) → t < length c.args.starts.now → get_or c.fill.new.self t 0 ≡ 4294967296 =
+    λ t l. ap (λ (us : List ℕ). get_or us t 0) full ∙ get_or-replicate (length c.args.starts.now) t 4294967296 0 l in
+    let z = get_or-set_same c.fill.new.self 0 0 0 (omega (arith, c.fill.ensures.len)) in
+    let long = length-set c.fill.new.self 0 0 in
     let r = ap (low 32) (nil_from_length (at ss 0) c.requires.ascending.1) in (
       (omega arith, omega (arith, c.requires.ascending.0)),
       sym z,
       z,
       omega arith,
       (λ e. refl),
-      (omega arith, λ t l h. get_or-set_other c.pad.new.starts 0 t 0 0 (λ e. omega arith) ∙ c.pad.ensures t (omega (arith, c.pad.auto.starts))),
+      (omega arith, λ t l h. get_or-set_other c.fill.new.self 0 t 0 0 (λ e. omega arith) ∙ padded t (omega (arith, c.fill.ensures.len))),
       λ t l k a b. absurd (omega arith),
     )
 
@@ -63,7 +66,7 @@ loop-start-preserved c =
     let same = get_or-set_same starts (count + 1) next 0 (omega arith) in
     let first = get_or-set_other starts (count + 1) 0 next 0 (λ e. omega arith) in
     let long = length-set starts (count + 1) next in
-    let whole = length-set c.pad.new.starts 0 0 in
+    let whole = length-set c.fill.new.self 0 0 in
     let h : count + 1 < length starts = omega arith in
     let right = stretch ss s next last a c.requires.ascending (omega arith) al s32 c.advance-last.ensures.low (λ l. next_low (omega arith)) c.until-start.ensures.past c.climb-answer.ensures.covers in (
       (omega arith, w),

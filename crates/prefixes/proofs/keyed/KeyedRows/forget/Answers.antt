@@ -17,8 +17,8 @@ renamed ss f g fs e stores = subst (λ (x : Option (List ℕ)). StoresWith ss x 
 pub invariant_of-self : goal.invariant_of-self
 invariant_of-self c =
     let s = c.args.self.now in
-    let j = c.in-Stored.at in
-    let h : j < length (keys_of s) = c.in-Stored.ensures.0 in
+    let j = c.in-Ok.at in
+    let h : j < length (keys_of s) = c.in-Ok.ensures.0 in
     let a = length-remove (rows_of s) j (omega (arith, s.level)) in
     let b = length-remove (keys_of s) j h in
     record {
@@ -29,9 +29,9 @@ invariant_of-self c =
 pub returns-then-not-serves : goal.returns-then-not-serves
 returns-then-not-serves c =
     let s = c.args.self.now in
-    let j = c.in-Stored.at in
-    let h : j < length (keys_of s) = c.in-Stored.ensures.0 in
-    let e : option_map spelled c.args.front.now ≡ Some (at (keys_of s) j) = ap (option_map spelled) c.in-Some.is ∙ ap Some (sym c.in-Stored.ensures.1) in
+    let j = c.in-Ok.at in
+    let h : j < length (keys_of s) = c.in-Ok.ensures.0 in
+    let e : option_map spelled c.args.front.now ≡ Some (at (keys_of s) j) = ap (option_map spelled) c.in-Some.is ∙ ap Some (sym c.in-Ok.ensures.1) in
     record {
       told = told_taken (keys_of s) _ (rows_of s) _ j s.level h c.take_out.ensures c.remove.ensures.items;
       stored = λ fs told stores.
@@ -43,9 +43,9 @@ returns-then-not-serves c =
 pub returns-else-at-gt0 : goal.returns-else-at-gt0
 returns-else-at-gt0 c =
     let s = c.args.self.now in
-    let j = c.in-Stored.at in
+    let j = c.in-Ok.at in
     let p = spelled c.in-Some.prefix in
-    let here : at (keys_of s) j ≡ p = c.in-Stored.ensures.1 in
+    let here : at (keys_of s) j ≡ p = c.in-Ok.ensures.1 in
     let e : option_map spelled c.args.front.now ≡ Some p = ap (option_map spelled) c.in-Some.is in
     record {
       told = λ fs told. told;

@@ -11,10 +11,10 @@ use Rattle.prefixes.proofs.keyed.KeyedRows.give.Goals as goal
 pub invariant_of-self : goal.invariant_of-self
 invariant_of-self c =
     let s = c.args.self.now in
-    let m = c.in-Vacant.at in
+    let m = c.in-Err.at in
     let ok : is_ok c.insert.result ≡ true = c.insert.ensures.succeeds (omega (arith, s.rows.ok.0, s.room, s.level)) in
     let items = c.insert.ensures.items ∙ cond-true (is_ok c.insert.result) _ _ ok in
-    let h : m ≤ length (keys_of s) = c.in-Vacant.ensures.0 in
+    let h : m ≤ length (keys_of s) = c.in-Err.ensures.0 in
     let a = length-insert (rows_of s) m c.index-row.result.now (omega (arith, s.level)) in
     let b = length-insert (keys_of s) m (spelled c.in-Some.prefix) h in
     record {
@@ -22,16 +22,16 @@ invariant_of-self c =
       room = omega (arith, c.insert.ensures.capacity, s.room);
     }
 
-pub returns-in-Vacant : goal.returns-in-Vacant
-returns-in-Vacant c =
+pub returns-in-Err : goal.returns-in-Err
+returns-in-Err c =
     let s = c.args.self.now in
-    let m = c.in-Vacant.at in
+    let m = c.in-Err.at in
     let ok : is_ok c.insert.result ≡ true = c.insert.ensures.succeeds (omega (arith, s.rows.ok.0, s.room, s.level)) in
     let items = c.insert.ensures.items ∙ cond-true (is_ok c.insert.result) _ _ ok in
     let p = spelled c.in-Some.prefix in
     record {
       told = told_given (keys_of s) _ (rows_of s) _ m p c.longest.result c.index-row.result.now s.level
-          c.in-Vacant.ensures.0 c.longest.ensures c.index-row.ensures c.put.ensures items;
+          c.in-Err.ensures.0 c.longest.ensures c.index-row.ensures c.put.ensures items;
       stored = λ q. ap (λ (ks : List (List ℕ)). has ks q) c.put.ensures ∙ has_inserted (keys_of s) m p q
           ∙ ap (λ f. names f q || has (keys_of s) q) (sym (ap (option_map spelled) c.in-Some.is));
     }

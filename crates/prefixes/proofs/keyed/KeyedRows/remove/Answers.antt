@@ -28,6 +28,6 @@ returns c =
     record {
       told = λ fs within told. subst (λ (rs : List Row). Told (keys_of s) rs (remove fs p)) (sym (with_items_is s.rows new (omega (arith, s.rows.ok.0))))
           (table_removed (λ x k. covers x (at (keys_of s) k)) fs p (rows_of s) new within n told
-          (subst (λ (rs : List Row). (k : ℕ) (d : Row) → k < length rs → Out p (get_or rs k d) (get_or new k d)) c.deref_mut.ensures.value c.remove_each.ensures));
+          (subst (λ (rs : List Row). (k : ℕ) (d : Row) → k < length rs → Out p (get_or rs k d) (get_or new k d)) c.deref_mut.ensures.value c.remove_each.ensures.later));
       keys = refl;
     }
