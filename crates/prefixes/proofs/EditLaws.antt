@@ -1,13 +1,13 @@
 -- The order after one string more and one less.
-use Rattle.std.proofs.Common.{◌≡◌, ℕ, suc, ◌+◌, ◌-◌, ◌<◌, ◌≤◌, false, ◌⊎◌, List, [], ◌∷◌, map, length, take, drop, sym, ap, ◌∙◌, subst, inl, inr, ⊎_elim, arith}
+use Rattle.std.proofs.Common.{◌≡◌, ℕ, suc, ◌+◌, ◌-◌, ◌<◌, ◌≤◌, false, ◌⊎◌, List, [], ◌∷◌, map, length, take, drop, ap, ◌∙◌, inl, inr, ⊎_elim, arith}
 use Rattle.std.specs.List.{insert, remove}
 use Rattle.std.proofs.lemmas.Bool.{cases_eq, cases_lt}
 use Rattle.std.proofs.lemmas.List.{map-append, take-map, drop-map}
 use Rattle.std.proofs.lemmas.List.Edits.{length-insert, get_or-insert_below, get_or-insert_at, get_or-insert_above, length-remove, get_or-remove_below, get_or-remove_above}
 use Rattle.prefixes.specs.Strings.{ordered}
-use Rattle.prefixes.specs.Spelled.{spelled}
-use Rattle.prefixes.specs.Stored.{strings, at, Ascending, LinkedTo, Fits}
-use Rattle.prefixes.specs.declared.symbols.Symbols.{Symbols}
+use Rattle.prefixes.specs.Stored.{at, Ascending, Fits}
+use Rattle.prefixes.specs.StoredStrings.{string_of, strings}
+use Rattle.prefixes.specs.declared.stored.Stored.{Stored}
 
 pub map_inserted : {X Y : Type 0} (f : X → Y) (xs : List X) (i : ℕ) (x : X) → map f (insert xs i x) ≡ insert (map f xs) i (f x)
 map_inserted f xs i x = rw (map-append f (take i xs) (x ∷ drop i xs), take-map f i xs, drop-map f i xs)
@@ -65,15 +65,8 @@ ascending_removed ss m pos h a =
     apart i j l k (inr x) (inl y) = absurd (omega arith)
     apart i j l k (inr x) (inr y) = rw (get_or-remove_above ss m [] i x h, get_or-remove_above ss m [] j y h) (a.2 (i + 1) (j + 1) (omega arith) k)
 
-pub strings_inserted : (xs ys : List Symbols) (m : ℕ) (x : Symbols) → ys ≡ insert xs m x → strings ys ≡ insert (strings xs) m (spelled x)
-strings_inserted xs ys m x e = ap strings e ∙ map_inserted spelled xs m x
+pub strings_inserted : (xs ys : List Stored) (m : ℕ) (x : Stored) → ys ≡ insert xs m x → strings ys ≡ insert (strings xs) m (string_of x)
+strings_inserted xs ys m x e = ap strings e ∙ map_inserted string_of xs m x
 
-pub strings_removed : (xs ys : List Symbols) (m : ℕ) → ys ≡ remove xs m → strings ys ≡ remove (strings xs) m
-strings_removed xs ys m e = ap strings e ∙ map_removed spelled xs m
-
--- the same facts of lists that are equal
-pub ascending_same : (xs ys : List Symbols) → ys ≡ xs → Ascending (strings xs) → Ascending (strings ys)
-ascending_same xs ys e a = subst (λ (zs : List Symbols). Ascending (strings zs)) (sym e) a
-
-pub linked_same : (xs ys : List Symbols) (links ws : List ℕ) → ys ≡ xs → ws ≡ links → LinkedTo (strings xs) links (length xs) → LinkedTo (strings ys) ws (length ys)
-linked_same xs ys links ws e f l = subst (λ (zs : List Symbols). LinkedTo (strings zs) ws (length zs)) (sym e) (subst (λ (us : List ℕ). LinkedTo (strings xs) us (length xs)) (sym f) l)
+pub strings_removed : (xs ys : List Stored) (m : ℕ) → ys ≡ remove xs m → strings ys ≡ remove (strings xs) m
+strings_removed xs ys m e = ap strings e ∙ map_removed string_of xs m

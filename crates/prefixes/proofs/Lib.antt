@@ -4,6 +4,5 @@ mod EditLaws
 mod BitLaws
 mod RangeLaws
 mod StretchLaws
-mod IndexLaws
 mod FrontLaws
 mod ListedLaws

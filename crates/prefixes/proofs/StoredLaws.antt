@@ -1,30 +1,21 @@
 -- Laws of a stored set of strings.
 use Rattle.std.proofs.Common.{◌≡◌, ℕ, ◌+◌, ◌-◌, ◌<◌, ◌≤◌, Bool, true, false, ◌⊎◌, List, [], length, get_or, set, sym, ap, ◌∙◌, subst, inl, inr, ⊎_elim, arith}
-use mathlib.Core.Logic.{∥∥₁_elim}
-use denote.Struct.Props.{props}
-use std.HLevel.{Π_prop}
 use Rattle.std.proofs.lemmas.Bool.{both_ways, cases_eq, cases_lt, cases_Bool}
 use Rattle.std.proofs.lemmas.List.{get_or-map, length-map, nil_from_length, get_or-set_same, get_or-set_other}
 use Rattle.fields.specs.Strings.{begins}
 use Rattle.prefixes.specs.Strings.{ordered, common}
-use Rattle.prefixes.specs.Spelled.{spelled}
-use Rattle.prefixes.specs.Stored.{strings, at, Ascending, Covers, Parent, LinkedTo, Fits}
-use Rattle.prefixes.specs.declared.symbols.Symbols.{Symbols}
+use Rattle.prefixes.specs.Stored.{at, Ascending, Covers, Parent, LinkedTo, Fits}
+use Rattle.prefixes.specs.StoredStrings.{string_of, strings}
+use Rattle.prefixes.specs.declared.stored.Stored.{Stored}
 use Rattle.prefixes.proofs.StringLaws.{begins_refl, begins_ordered, ordered_trans, ordered_total, between, common_between}
 
--- both facts hold in one way at most, so a set that keeps them truncated has them
-pub ascending_of : (ss : List (List ℕ)) → ∥ Ascending ss ∥₁ → Ascending ss
-ascending_of ss h = ∥∥₁_elim h (hlevel props) (λ a. a)
-
-parent_prop : (ss : List (List ℕ)) (i r : ℕ) → IsProp (Parent ss i r)
-parent_prop ss i r = hlevel props
-
-pub linked_of : (ss : List (List ℕ)) (links : List ℕ) (n : ℕ) → ∥ LinkedTo ss links n ∥₁ → LinkedTo ss links n
-linked_of ss links n h = ∥∥₁_elim h (Π_prop (λ i. Π_prop (λ pos. Π_prop (λ l. parent_prop ss i (get_or links i 0))))) (λ a. a)
+-- an element spells the string at its place
+pub spelled_at : (xs : List Stored) (i : ℕ) (d : Stored) → i < length xs → string_of (get_or xs i d) ≡ at (strings xs) i
+spelled_at xs i d h = sym (get_or-map string_of xs i d [] h)
 
 -- an element that was read spells the string at its place
-pub read_at : (xs : List Symbols) (i : ℕ) (x : Symbols) → i < length xs → x ≡ get_or xs i x → spelled x ≡ at (strings xs) i
-read_at xs i x h e = ap spelled e ∙ sym (get_or-map spelled xs i x [] h)
+pub read_at : (xs : List Stored) (i : ℕ) (x : Stored) → i < length xs → x ≡ get_or xs i x → string_of x ≡ at (strings xs) i
+read_at xs i x h e = ap string_of e ∙ spelled_at xs i x h
 
 -- one string not behind the key: all before it are not either
 pub low_more : (ss : List (List ℕ)) (key : List ℕ) (m : ℕ) → Ascending ss → m < length ss → ordered (at ss m) key ≡ true → (i : ℕ) → i < m + 1 → ordered (at ss i) key ≡ true
@@ -62,7 +53,7 @@ covers_all ss key n r high c j l b =
     (cases_lt j n)
 
 -- one link on
-pub covers_link : (ss : List (List ℕ)) (key links : List ℕ) (n i : ℕ) → begins (at ss i) key ≡ false → Covers ss (at ss i) i (get_or links i 0) → Covers ss key n i → Covers ss key n (get_or links i 0)
+covers_link : (ss : List (List ℕ)) (key links : List ℕ) (n i : ℕ) → begins (at ss i) key ≡ false → Covers ss (at ss i) i (get_or links i 0) → Covers ss key n i → Covers ss key n (get_or links i 0)
 covers_link ss key links n i f link c j l b =
     let k = c j l b in
     link j (below k.0) k.1
@@ -70,20 +61,27 @@ covers_link ss key links n i f link c j l b =
     below : j ≤ i → j < i
     below le = ⊎_elim (λ lt. lt) (λ ge. absurd (both_ways (begins (at ss i) key) f (subst (λ (n : ℕ). begins (at ss n) key ≡ true) (let e : j ≡ i = omega arith in e) b))) (cases_lt j i)
 
-pub length_strings : (xs : List Symbols) → length (strings xs) ≡ length xs
-length_strings xs = length-map xs spelled
-
--- what a test of an element says of the string at its place
-pub tested_at : (f : List ℕ → Bool) (xs : List Symbols) (i : ℕ) (x : Symbols) (s : List ℕ) (b : Bool) → i < length xs → x ≡ get_or xs i x → s ≡ spelled x → b ≡ f s → f (at (strings xs) i) ≡ b
-tested_at f xs i x s b h e es eb = sym (eb ∙ ap f (es ∙ read_at xs i x h e))
-
 -- the empty string begins all, so a string that does not begin the key has a place above 0
-pub not_root : (ss : List (List ℕ)) (key : List ℕ) (i : ℕ) → at ss 0 ≡ [] → begins (at ss i) key ≡ false → 0 < i
+not_root : (ss : List (List ℕ)) (key : List ℕ) (i : ℕ) → at ss 0 ≡ [] → begins (at ss i) key ≡ false → 0 < i
 not_root ss key i root f =
     ⊎_elim
     (λ lt. lt)
     (λ ge. absurd (both_ways (begins (at ss i) key) f (ap (λ (s : List ℕ). begins s key) (ap (at ss) (let e : i ≡ 0 = omega arith in e) ∙ root))))
     (cases_lt 0 i)
+
+-- the same, for a set in order that is linked as far as the place
+pub climbs : (ss : List (List ℕ)) (key links : List ℕ) (n i : ℕ) → Ascending ss → LinkedTo ss links n → i < n → begins (at ss i) key ≡ false → Covers ss key n i
+    → (get_or links i 0 < i) × Covers ss key n (get_or links i 0)
+climbs ss key links n i a linked h f c =
+    let link = linked i (not_root ss key i (nil_from_length (at ss 0) a.1) f) h in
+    (link.0, covers_link ss key links n i f link.1 c)
+
+pub length_strings : (xs : List Stored) → length (strings xs) ≡ length xs
+length_strings xs = length-map xs string_of
+
+-- what a test of an element says of the string at its place
+pub tested_at : (f : List ℕ → Bool) (xs : List Stored) (i : ℕ) (x : Stored) (s : List ℕ) (b : Bool) → i < length xs → x ≡ get_or xs i x → s ≡ string_of x → b ≡ f s → f (at (strings xs) i) ≡ b
+tested_at f xs i x s b h e es eb = sym (eb ∙ ap f (es ∙ read_at xs i x h e))
 
 -- one link more
 pub linked_more : (ss : List (List ℕ)) (links : List ℕ) (i r : ℕ) → i < length links → LinkedTo ss links i → Parent ss i r → LinkedTo ss (set links i r) (i + 1)

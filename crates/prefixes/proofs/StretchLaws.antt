@@ -1,38 +1,31 @@
 -- Laws of stretches of numbers with one answer.
-use Rattle.std.proofs.Common.{◌≡◌, ℕ, ◌+◌, ◌%◌, ◌^◌, ◌<◌, ◌≤◌, true, false, List, [], map, length, get_or, set, sym, ap, ◌∙◌, subst, ⊎_elim, arith}
-use Rattle.std.proofs.lemmas.Bool.{cases_eq, cases_lt, cases_Bool}
-use Rattle.std.proofs.lemmas.List.{get_or-map, length-map, get_or-set_same, get_or-set_other}
+use Rattle.std.proofs.Common.{◌≡◌, ℕ, ◌+◌, ◌%◌, ◌^◌, ◌<◌, ◌≤◌, true, ◌&&◌, leb, ltb, List, length, get_or, set, sym, ap, ◌∙◌, subst, ⊎_elim, arith}
+use Rattle.std.proofs.lemmas.Bool.{both_ways, cases_eq, cases_lt, cases_Bool, and_from, and_parts, le-leb, lt-ltb, leb-true, ltb-true}
+use Rattle.std.proofs.lemmas.List.{get_or-set_same, get_or-set_other}
 use Rattle.fields.specs.Strings.{begins}
-use Rattle.prefixes.specs.Stored.{at, Ascending, Covers, LinkedTo}
+use Rattle.prefixes.specs.Stored.{at, Ascending, Covers}
 use Rattle.prefixes.specs.Bits.{bits_of}
 use Rattle.prefixes.specs.Ranges.{low, past, Best, Stretched}
 use Rattle.prefixes.proofs.StringLaws.{ordered_total}
-use Rattle.prefixes.proofs.StoredLaws.{covers_link, covers_last, not_root}
+use Rattle.prefixes.proofs.StoredLaws.{covers_last}
 use Rattle.prefixes.proofs.RangeLaws.{begins_within, within_begins, low_ordered, low_mono, low_bound}
 
--- a number of a string, by the list of those of all strings
-pub number_at : (f : List ℕ → ℕ) (ss : List (List ℕ)) (ns : List ℕ) (i : ℕ) → ns ≡ map f ss → i < length ss → get_or ns i 0 ≡ f (at ss i)
-number_at f ss ns i e h = ap (λ (l : List ℕ). get_or l i 0) e ∙ get_or-map f ss i [] 0 h
-
-not_begun : (p : List ℕ) (k : ℕ) → k < 2 ^ 32 → past 32 p ≤ k → begins p (bits_of 32 k) ≡ false
-not_begun p k h l =
-    ⊎_elim
-    (λ t. let w = begins_within 32 p k t in let m : k % 2 ^ 32 ≡ k = omega arith in absurd (omega arith))
-    (λ f. f)
-    (cases_Bool (begins p (bits_of 32 k)))
-
-pub begun : (p : List ℕ) (k : ℕ) → k < 2 ^ 32 → low 32 p ≤ k → k < past 32 p → begins p (bits_of 32 k) ≡ true
+begun : (p : List ℕ) (k : ℕ) → k < 2 ^ 32 → low 32 p ≤ k → k < past 32 p → begins p (bits_of 32 k) ≡ true
 begun p k h l m = let e : k % 2 ^ 32 ≡ k = omega arith in within_begins 32 p k (omega arith) (omega arith)
 
--- one link on, where the string at hand does not begin the bits
-pub climbs : (ss : List (List ℕ)) (pasts links : List ℕ) (n key i : ℕ) → pasts ≡ map (past 32) ss → at ss 0 ≡ [] → LinkedTo ss links n → key < 2 ^ 32 → i < n → n ≤ length ss → Covers ss (bits_of 32 key) n i → get_or pasts i 0 ≤ key → (get_or links i 0 < i) × Covers ss (bits_of 32 key) n (get_or links i 0)
-climbs ss pasts links n key i e root linked small l h c le =
-    let f = not_begun (at ss i) key small (subst (λ (m : ℕ). m ≤ key) (number_at (past 32) ss pasts i e (omega arith)) le) in
-    let link = linked i (not_root ss (bits_of 32 key) i root f) l in
-    (link.0, covers_link ss (bits_of 32 key) links n i f link.1 c)
-
-pub length_numbers : (f : List ℕ → ℕ) (ss : List (List ℕ)) (ns : List ℕ) → ns ≡ map f ss → length ns ≡ length ss
-length_numbers f ss ns e = ap length e ∙ length-map ss f
+-- a string begins the bits of the numbers in its range
+pub begins_range : (p : List ℕ) (k : ℕ) → k < 2 ^ 32 → (leb (low 32 p) k && ltb k (past 32 p)) ≡ begins p (bits_of 32 k)
+begins_range p k h =
+    ⊎_elim
+    (λ t. let w = begins_within 32 p k t in
+    let m : k % 2 ^ 32 ≡ k = omega arith in
+    and_from (leb (low 32 p) k) (ltb k (past 32 p)) (le-leb (low 32 p) k (omega arith)) (lt-ltb k (past 32 p) (omega arith)) ∙ sym t)
+    (λ f. ⊎_elim
+    (λ t. let w = and_parts (leb (low 32 p) k) (ltb k (past 32 p)) t in
+    absurd (both_ways (begins p (bits_of 32 k)) f (begun p k h (leb-true (low 32 p) k w.0) (ltb-true k (past 32 p) w.1))))
+    (λ g. g ∙ sym f)
+    (cases_Bool (leb (low 32 p) k && ltb k (past 32 p))))
+    (cases_Bool (begins p (bits_of 32 k)))
 
 -- the lows of the strings before one are not above its own
 pub low_before : (ss : List (List ℕ)) (i j : ℕ) → Ascending ss → i ≤ j → j < length ss → low 32 (at ss i) ≤ low 32 (at ss j)

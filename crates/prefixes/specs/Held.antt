@@ -1,6 +1,6 @@
 -- The strings that a set holds, in order.
 use Rattle.std.specs.Prelude.{ℕ, List, vec_items}
-use Rattle.prefixes.specs.Stored.{strings}
+use Rattle.prefixes.specs.StoredStrings.{strings}
 use Rattle.prefixes.specs.declared.set.PrefixSet.{PrefixSet}
 
 abbrev pub held : PrefixSet → List (List ℕ)

@@ -1,10 +1,12 @@
 pub mod Strings
 pub mod Spelled
 pub mod Stored
+pub mod StoredStrings
 pub mod Held
 pub mod Bits
 pub mod Placed
 pub mod Ranges
+pub mod Divided
 pub mod Indexed
 pub mod Numbered
 pub mod Fronts

@@ -1,12 +1,7 @@
 -- A stored set of strings: a list in strict order that starts with the empty string, and links back.
-use Rattle.std.specs.Prelude.{◌≡◌, ℕ, ◌<◌, ◌≤◌, true, false, List, [], map, length, slice_index, slice_index_or}
+use Rattle.std.specs.Prelude.{◌≡◌, ℕ, ◌<◌, ◌≤◌, true, false, List, [], length, slice_index, slice_index_or}
 use Rattle.fields.specs.Strings.{begins}
 use Rattle.prefixes.specs.Strings.{ordered}
-use Rattle.prefixes.specs.Spelled.{spelled}
-use Rattle.prefixes.specs.declared.symbols.Symbols.{Symbols}
-
-abbrev pub strings : List Symbols → List (List ℕ)
-strings xs = map spelled xs
 
 -- the string at a place
 abbrev pub at : List (List ℕ) → ℕ → List ℕ

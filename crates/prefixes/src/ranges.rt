@@ -1,5 +1,5 @@
 // The range of numbers that a string of bits begins.
-ghost use Rattle.std.specs.Prelude.{◌≡◌};
+ghost use Rattle.std.specs.Prelude.{◌≡◌, ◌&&◌, nat_le, nat_lt};
 ghost use Rattle.prefixes.specs.Ranges.{low as low_of, past as past_of};
 
 // The first number that has more than 32 bits.
@@ -10,6 +10,14 @@ pub(crate) const END: u64 = 4294967296;
 pub(crate) struct Range {
     pub low: u64,
     pub past: u64,
+}
+
+impl Range {
+    pub(crate) fn contains(&self, number: u64) -> bool
+        ensures { result ≡ (nat_le self.now.low number && nat_lt number self.now.past) }
+    {
+        self.low <= number && number < self.past
+    }
 }
 
 // The range of a string; it is empty where no number of 32 bits begins so.

@@ -5,13 +5,14 @@ ghost use Rattle.prefixes.specs.Bits.{bits_of};
 ghost use Rattle.prefixes.specs.Indexed.{kept};
 ghost use Rattle.prefixes.specs.Placed.{Placed};
 ghost use Rattle.prefixes.specs.Spelled.{spelled};
-ghost use Rattle.prefixes.specs.Stored.{Longest, Fits, Parent, strings};
+ghost use Rattle.prefixes.specs.Stored.{Longest, Fits, Parent};
+ghost use Rattle.prefixes.specs.StoredStrings.{strings};
 
 use super::IndexedSet;
 use crate::bits::spell_bits;
-use crate::ranges::{END, range_of};
-use crate::set::{PrefixSet, ROOM};
-use crate::stretches;
+use crate::set::PrefixSet;
+use crate::stored::Stored;
+use crate::stretches::Stretches;
 use crate::symbols::Symbols;
 use std::alloc::{AllocError, Global};
 
@@ -21,28 +22,8 @@ impl IndexedSet {
         ensures { IfOk result (λ s. kept s ≡ [] ∷ []) }
     {
         let set = PrefixSet::new(heap)?;
-        let mut lows = Vec::with_capacity(heap, ROOM)?;
-        let mut pasts = Vec::with_capacity(heap, ROOM)?;
-        lows.push_reserved(0);
-        pasts.push_reserved(END);
-        let mut starts = [0; 1025];
-        let mut answers = [0; 1025];
-        let count = stretches::divide(
-            set.as_slice(),
-            &lows,
-            &pasts,
-            set.links(),
-            &mut starts,
-            &mut answers,
-        );
-        Ok(IndexedSet {
-            set,
-            lows,
-            pasts,
-            starts,
-            answers,
-            count,
-        })
+        let stretches = Stretches::new(&set);
+        Ok(IndexedSet { set, stretches })
     }
 
     // Where the string is stored, or else where it belongs.
@@ -69,7 +50,7 @@ impl IndexedSet {
     }
 
     // The strings.
-    pub(crate) fn as_slice(&self) -> &[Symbols]
+    pub(crate) fn as_slice(&self) -> &[Stored]
         ensures { strings result.now ≡ kept self.now }
     {
         self.set.as_slice()
@@ -79,17 +60,9 @@ impl IndexedSet {
     pub(crate) fn longest_number(&self, key: u32) -> usize
         ensures { Longest (kept self.now) (bits_of 32 key) result }
     {
-        let number = u64::from(key);
-        if number < self.starts[self.count] {
-            stretches::look_up(
-                self.set.as_slice(),
-                &self.starts,
-                &self.answers,
-                self.count,
-                number,
-            )
-        } else {
-            self.set.longest(&spell_bits(u128::from(key), 32, 32))
+        match self.stretches.look_up(key) {
+            Some(place) => place,
+            None => self.set.longest(&spell_bits(u128::from(key), 32, 32)),
         }
     }
 
@@ -100,18 +73,8 @@ impl IndexedSet {
         requires fits { Fits (kept self.old) (spelled prefix) at }
         ensures { kept self.new ≡ insert (kept self.old) at (spelled prefix) }
     {
-        let range = range_of(prefix.as_slice());
         self.set.put(at, prefix);
-        let _ = self.lows.insert(at, range.low);
-        let _ = self.pasts.insert(at, range.past);
-        self.count = stretches::divide(
-            self.set.as_slice(),
-            &self.lows,
-            &self.pasts,
-            self.set.links(),
-            &mut self.starts,
-            &mut self.answers,
-        );
+        self.stretches.renew(&self.set);
     }
 
     // Forgets the string at a place, but not the empty one.
@@ -121,15 +84,6 @@ impl IndexedSet {
         ensures { kept self.new ≡ remove (kept self.old) at }
     {
         self.set.take_out(at);
-        let _ = self.lows.remove(at);
-        let _ = self.pasts.remove(at);
-        self.count = stretches::divide(
-            self.set.as_slice(),
-            &self.lows,
-            &self.pasts,
-            self.set.links(),
-            &mut self.starts,
-            &mut self.answers,
-        );
+        self.stretches.renew(&self.set);
     }
 }

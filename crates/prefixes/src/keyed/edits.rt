@@ -5,9 +5,11 @@ ghost use Rattle.rows.specs.Tables.{Put};
 ghost use Rattle.rows.specs.declared.row.Row.{Row};
 ghost use Rattle.prefixes.specs.Fronts.{covers as covers_all};
 ghost use Rattle.prefixes.specs.Spelled.{spelled};
-ghost use Rattle.prefixes.specs.Stored.{strings, at};
+ghost use Rattle.prefixes.specs.Stored.{at};
+ghost use Rattle.prefixes.specs.StoredStrings.{strings};
 
 use crate::compare::begins;
+use crate::stored::Stored;
 use crate::symbols::Symbols;
 use rows::Row;
 
@@ -24,7 +26,7 @@ pub(crate) fn covers(front: &Option<Symbols>, string: &Symbols) -> bool
 // Puts into each row, at `place`, whether the front covers the string of the row.
 pub(crate) fn insert_each(
     rows: &mut [Row],
-    stored: &[Symbols],
+    stored: &[Stored],
     place: usize,
     front: &Option<Symbols>,
 )
@@ -33,7 +35,7 @@ pub(crate) fn insert_each(
 {
     // By index, since nothing is known of rows that are written through a zip of them with the strings.
     for i in 0..rows.len() {
-        let bit = covers(front, &stored[i]);
+        let bit = covers(front, &stored[i].symbols);
         rows[i].insert(place, bit);
     }
 }

@@ -1,13 +1,14 @@
-// What a set of strings is asked, and its edits.
+// The strings of a set, and its edits.
 ghost use Rattle.std.specs.Prelude.{◌≡◌, ◌<◌, ◌≤◌, [], ◌∷◌, length, IfOk};
 ghost use Rattle.std.specs.List.{insert, remove};
 ghost use Rattle.prefixes.specs.Held.{held};
-ghost use Rattle.prefixes.specs.Placed.{Placed};
 ghost use Rattle.prefixes.specs.Spelled.{spelled};
-ghost use Rattle.prefixes.specs.Stored.{Longest, Fits, Parent, strings};
+ghost use Rattle.prefixes.specs.Stored.{Fits, Parent};
+ghost use Rattle.prefixes.specs.StoredStrings.{strings};
 
 use super::{PrefixSet, ROOM};
-use crate::search;
+use crate::links::relink;
+use crate::stored::Stored;
 use crate::symbols::Symbols;
 use std::alloc::{AllocError, Global};
 
@@ -17,31 +18,15 @@ impl PrefixSet {
         ensures { IfOk result (λ s. held s ≡ [] ∷ []) }
     {
         let mut stored = Vec::with_capacity(heap, ROOM)?;
-        let mut links = Vec::with_capacity(heap, ROOM)?;
-        stored.push_reserved(Symbols::new());
-        links.push_reserved(0);
-        Ok(PrefixSet { stored, links })
+        stored.push_reserved(Stored::new(Symbols::new()));
+        Ok(PrefixSet { stored })
     }
 
     // The stored strings.
-    pub(crate) fn as_slice(&self) -> &[Symbols]
+    pub(crate) fn as_slice(&self) -> &[Stored]
         ensures { strings result.now ≡ held self.now }
     {
         &self.stored
-    }
-
-    // The link of each string.
-    pub(crate) fn links(&self) -> &[usize]
-        ensures { result.now ≡ self.now.links.items }
-    {
-        &self.links
-    }
-
-    // The place of the longest stored string that begins the key.
-    pub(crate) fn longest(&self, key: &Symbols) -> usize
-        ensures { Longest (held self.now) (spelled key.now) result }
-    {
-        search::longest(&self.stored, &self.links, key.as_slice())
     }
 
     // The place of the longest other string that begins the string at a place, which is not the empty one.
@@ -50,14 +35,7 @@ impl PrefixSet {
         requires within { at < length (held self.now) }
         ensures { Parent (held self.now) at result }
     {
-        self.links[at]
-    }
-
-    // Where the string is stored, or else where it belongs.
-    pub(crate) fn locate(&self, prefix: &Symbols) -> Result<usize, usize>
-        ensures { Placed (held self.now) (spelled prefix.now) result }
-    {
-        search::locate(&self.stored, prefix.as_slice())
+        self.stored[at].link
     }
 
     // Stores a string between those before and behind it in the order.
@@ -67,9 +45,8 @@ impl PrefixSet {
         requires fits { Fits (held self.old) (spelled prefix) at }
         ensures { held self.new ≡ insert (held self.old) at (spelled prefix) }
     {
-        let _ = self.stored.insert(at, prefix);
-        self.links.push_reserved(0);
-        search::relink(&self.stored, &mut self.links);
+        let _ = self.stored.insert(at, Stored::new(prefix));
+        relink(&mut self.stored);
     }
 
     // Forgets the string at a place, but not the empty one.
@@ -79,7 +56,6 @@ impl PrefixSet {
         ensures { held self.new ≡ remove (held self.old) at }
     {
         let _ = self.stored.remove(at);
-        self.links.truncate(self.stored.len());
-        search::relink(&self.stored, &mut self.links);
+        relink(&mut self.stored);
     }
 }

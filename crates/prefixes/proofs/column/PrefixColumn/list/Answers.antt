@@ -14,7 +14,6 @@ use Rattle.prefixes.specs.Listed.{front_of, fronts_of}
 use Rattle.prefixes.specs.Spelled.{spelled}
 use Rattle.prefixes.proofs.EditLaws.{map_inserted}
 use Rattle.prefixes.proofs.FrontLaws.{lean}
-use Rattle.prefixes.proofs.StoredLaws.{ascending_of}
 use Rattle.prefixes.proofs.column.PrefixColumn.list.Goals as goal
 
 pub give-requires : goal.give-requires
@@ -22,7 +21,7 @@ give-requires g c =
     let s = c.args.self.now in
     let cs = vec_items s.conditions in
     let front = g.T.Prefix.front in
-    let few = lean (keys_of s.keyed) (fronts_of front cs) (ascending_of (keys_of s.keyed) s.keyed.set.set.ascending) c.args.self.now.stored in
+    let few = lean (keys_of s.keyed) (fronts_of front cs) s.keyed.set.set.ascending c.args.self.now.stored in
     omega (arith, length-map cs (front_of front), c.requires.few)
 
 pub invariant_of-self : goal.invariant_of-self

@@ -6,7 +6,6 @@ use Rattle.prefixes.specs.Keyed.{keys_of, rows_of}
 use Rattle.prefixes.specs.Spelled.{spelled}
 use Rattle.prefixes.specs.Stored.{at}
 use Rattle.prefixes.proofs.FrontLaws.{told_taken, stores_removed, stores_kept, stores_vacant, stores_empty}
-use Rattle.prefixes.proofs.StoredLaws.{ascending_of}
 use Rattle.prefixes.proofs.keyed.KeyedRows.forget.Goals as goal
 use Rattle.prefixes.proofs.keyed.KeyedRows.forget.Goals.{else-at-gt0-via-then-at-gt0+else-not-serves, else-at-gt0-via-else-at-gt0}
 
@@ -37,7 +36,7 @@ returns-then-not-serves c =
       stored = λ fs told stores.
           let with_it = renamed (keys_of s) _ (Some (at (keys_of s) j)) fs e stores in
           subst (λ (ks : List (List ℕ)). Stores ks fs) (sym c.take_out.ensures)
-          (stores_removed (keys_of s) j fs (ascending_of (keys_of s) s.set.set.ascending) h (sym (c.serves.ensures fs told with_it) ∙ c.if-not-serves.true) with_it);
+          (stores_removed (keys_of s) j fs s.set.set.ascending h (sym (c.serves.ensures fs told with_it) ∙ c.if-not-serves.true) with_it);
     }
 
 pub returns-else-at-gt0 : goal.returns-else-at-gt0
@@ -55,7 +54,7 @@ returns-else-at-gt0 c =
             (renamed (keys_of s) _ (Some p) fs e stores)
         | else-at-gt0-via-else-at-gt0 w ↦ stores_empty (keys_of s) p fs
             (let z : j ≡ 0 = omega (arith, w.if-at-gt0.false) in
-            ap length (sym here) ∙ ap (λ (k : ℕ). length (at (keys_of s) k)) z ∙ (ascending_of (keys_of s) s.set.set.ascending).1)
+            ap length (sym here) ∙ ap (λ (k : ℕ). length (at (keys_of s) k)) z ∙ s.set.set.ascending.1)
             (renamed (keys_of s) _ (Some p) fs e stores)
       ];
     }

@@ -8,7 +8,8 @@ use Rattle.rows.proofs.Listed.{table_inserted}
 use Rattle.prefixes.specs.Fronts.{covers, Told}
 use Rattle.prefixes.specs.Keyed.{keys_of, rows_of}
 use Rattle.prefixes.specs.Spelled.{spelled}
-use Rattle.prefixes.specs.Stored.{strings, at}
+use Rattle.prefixes.specs.Stored.{at}
+use Rattle.prefixes.specs.StoredStrings.{strings}
 use Rattle.prefixes.proofs.StoredLaws.{length_strings}
 use Rattle.prefixes.proofs.keyed.KeyedRows.insert.Goals as goal
 

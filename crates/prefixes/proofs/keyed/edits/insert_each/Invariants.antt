@@ -2,7 +2,8 @@ use Rattle.std.specs.Option.{option_map}
 use Rattle.rows.specs.Tables.{Put}
 use Rattle.prefixes.specs.Fronts.{covers}
 use Rattle.prefixes.specs.Spelled.{spelled}
-use Rattle.prefixes.specs.Stored.{strings, at}
+use Rattle.prefixes.specs.Stored.{at}
+use Rattle.prefixes.specs.StoredStrings.{strings}
 use Rattle.columns.proofs.Tables.{Each}
 use Rattle.prefixes.proofs.keyed.edits.insert_each.Given as goal
 

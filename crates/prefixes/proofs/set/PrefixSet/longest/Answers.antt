@@ -1,15 +1,27 @@
-use Rattle.std.proofs.Common.{length, vec_items, sym, ap, ◌∙◌}
-use Rattle.prefixes.specs.Stored.{strings}
-use Rattle.prefixes.proofs.StoredLaws.{ascending_of, linked_of}
-use Rattle.prefixes.proofs.EditLaws.{ascending_same, linked_same}
+use Rattle.std.proofs.Common.{◌-◌, arith}
+use Rattle.prefixes.specs.Held.{held}
+use Rattle.prefixes.specs.Spelled.{spelled}
+use Rattle.prefixes.proofs.StoredLaws.{covers_last, covers_all}
 use Rattle.prefixes.proofs.set.PrefixSet.longest.Goals as goal
 
-pub longest-requires : goal.longest-requires
-longest-requires c =
-    let s = c.args.self.now in
+pub longest_to-requires : goal.longest_to-requires
+longest_to-requires c =
+    let t = c.args.self.now in
+    let p = c.rank.ensures.some in
+    let w = c.rank.ensures.within in
     record {
-      ascending = ascending_same (vec_items s.stored) c.deref.result.now c.deref.ensures.value (ascending_of (strings (vec_items s.stored)) s.ascending);
-      level = ap length c.deref-2.ensures.value ∙ (s.level ∙ sym (ap length c.deref.ensures.value));
-      linked = linked_same (vec_items s.stored) c.deref.result.now (vec_items s.links) c.deref-2.result.now c.deref.ensures.value c.deref-2.ensures.value
-          (linked_of (strings (vec_items s.stored)) (vec_items s.links) (length (vec_items s.stored)) s.linked);
+      within = omega arith;
+      covers = covers_last (held t) (spelled c.args.key.now) (c.rank.result - 1) t.ascending (omega arith) (c.rank.ensures.low (c.rank.result - 1) (omega arith));
+    }
+
+pub returns : goal.returns
+returns c =
+    let t = c.args.self.now in
+    let p = c.rank.ensures.some in
+    let w = c.rank.ensures.within in
+    record {
+      within = omega (arith, c.longest_to.ensures.bound);
+      front = c.longest_to.ensures.begun;
+      covers = covers_all (held t) (spelled c.args.key.now) c.rank.result c.longest_to.result c.rank.ensures.high
+          (λ j l b. c.longest_to.ensures.covers j (omega arith) b);
     }

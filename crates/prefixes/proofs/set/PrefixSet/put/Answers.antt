@@ -1,55 +1,47 @@
 use Rattle.std.proofs.Common.{◌≡◌, ℕ, List, length, vec_items, sym, ap, ◌∙◌, subst, arith}
+use Rattle.std.specs.List.{insert}
 use Rattle.std.proofs.lemmas.List.{with_items_is}
 use Rattle.std.proofs.lemmas.Bool.{cond-true}
 use Rattle.prefixes.specs.Spelled.{spelled}
-use Rattle.prefixes.specs.Stored.{strings, Ascending}
-use Rattle.prefixes.proofs.StoredLaws.{ascending_of, length_strings}
-use Rattle.prefixes.proofs.EditLaws.{ascending_inserted, strings_inserted, ascending_same, linked_same}
+use Rattle.prefixes.specs.Held.{held}
+use Rattle.prefixes.specs.Stored.{Ascending, LinkedTo}
+use Rattle.prefixes.specs.StoredStrings.{strings, links}
+use Rattle.prefixes.specs.declared.stored.Stored.{Stored}
+use Rattle.prefixes.proofs.EditLaws.{ascending_inserted, strings_inserted}
+use Rattle.prefixes.proofs.StoredLaws.{length_strings}
 use Rattle.prefixes.proofs.set.PrefixSet.put.Goals as goal
-
-pub insert-requires : goal.insert-requires
-insert-requires c =
-    let s = c.args.self.now in
-    omega (arith, length_strings (vec_items s.stored), s.stored.ok.0)
-
-pub push_reserved-requires : goal.push_reserved-requires
-push_reserved-requires c =
-    let s = c.args.self.now in
-    omega (arith, length_strings (vec_items s.stored), s.links.ok.0, s.level, s.room)
 
 pub relink-requires : goal.relink-requires
 relink-requires c =
     let s = c.args.self.now in
     let xs = vec_items s.stored in
-    let n = length_strings xs in
-    let ok = c.insert.ensures.succeeds (omega (arith, s.stored.ok.0, s.room)) in
-    let len = c.insert.ensures.len ∙ cond-true _ _ _ ok in
-    record {
-      ascending = ascending_same (vec_items c.insert.new.self) c.deref.result.now c.deref.ensures.value
-          (subst (λ (ss : List (List ℕ)). Ascending ss) (sym (strings_inserted xs (vec_items c.insert.new.self) c.args.at c.args.prefix (c.insert.ensures.items ∙ cond-true _ _ _ ok)))
-          (ascending_inserted (strings xs) (spelled c.args.prefix) c.args.at c.requires.within (ascending_of (strings xs) s.ascending) c.requires.fits));
-      level = omega (arith, len, s.stored.ok.0, s.links.ok.0, s.level, c.push_reserved.ensures.len, c.deref.ensures.len, c.deref_mut.ensures.len);
-    }
+    let ok = c.insert.ensures.succeeds (omega (arith, s.stored.ok.0, s.room, length_strings xs)) in
+    let strs : strings (vec_items c.insert.new.self) ≡ insert (held s) c.args.at (spelled c.args.prefix) =
+    strings_inserted xs _ c.args.at c.new.result (c.insert.ensures.items ∙ cond-true _ _ _ ok) ∙ ap (insert (held s) c.args.at) c.new.ensures in
+    subst (λ (ts : List (List ℕ)). Ascending ts) (sym (ap strings c.deref_mut.ensures.value ∙ strs))
+    (ascending_inserted (held s) (spelled c.args.prefix) c.args.at c.requires.within s.ascending c.requires.fits)
 
 pub invariant_of-self : goal.invariant_of-self
 invariant_of-self c =
     let s = c.args.self.now in
     let xs = vec_items s.stored in
-    let n = length_strings xs in
-    let ok = c.insert.ensures.succeeds (omega (arith, s.stored.ok.0, s.room)) in
-    let len = c.insert.ensures.len ∙ cond-true _ _ _ ok in
-    let links = with_items_is c.push_reserved.new.self c.relink.new.links (omega (arith, c.relink.auto.links, c.deref_mut.ensures.len)) in record {
-      ascending = ∣ subst (λ (ss : List (List ℕ)). Ascending ss) (sym (strings_inserted xs (vec_items c.insert.new.self) c.args.at c.args.prefix (c.insert.ensures.items ∙ cond-true _ _ _ ok)))
-          (ascending_inserted (strings xs) (spelled c.args.prefix) c.args.at c.requires.within (ascending_of (strings xs) s.ascending) c.requires.fits) ∣₁;
-      level = ap length links ∙ (let e : length c.relink.new.links ≡ length (vec_items c.insert.new.self) = omega (arith, len, s.stored.ok.0, s.links.ok.0, s.level, c.push_reserved.ensures.len, c.deref_mut.ensures.len, c.relink.auto.links, c.insert.new.self.ok.0) in e);
-      linked = ∣ linked_same c.deref.result.now (vec_items c.insert.new.self) c.relink.new.links _ (sym c.deref.ensures.value) links c.relink.ensures ∣₁;
-      room = (omega (arith, c.insert.ensures.capacity, s.room), omega (arith, c.push_reserved.ensures.capacity, s.room));
+    let ok = c.insert.ensures.succeeds (omega (arith, s.stored.ok.0, s.room, length_strings xs)) in
+    let strs : strings (vec_items c.insert.new.self) ≡ insert (held s) c.args.at (spelled c.args.prefix) =
+    strings_inserted xs _ c.args.at c.new.result (c.insert.ensures.items ∙ cond-true _ _ _ ok) ∙ ap (insert (held s) c.args.at) c.new.ensures in
+    let whole = with_items_is c.insert.new.self c.relink.new.stored (omega (arith, c.relink.auto.stored, c.deref_mut.ensures.len)) in
+    record {
+      ascending = subst (λ (ts : List (List ℕ)). Ascending ts) (sym (ap strings whole ∙ c.relink.ensures.strings ∙ ap strings c.deref_mut.ensures.value ∙ strs))
+          (ascending_inserted (held s) (spelled c.args.prefix) c.args.at c.requires.within s.ascending c.requires.fits);
+      linked = subst (λ (ys : List Stored). LinkedTo (strings ys) (links ys) (length ys)) (sym whole) c.relink.ensures.linked;
+      room = omega (arith, c.insert.ensures.capacity, s.room);
     }
 
 pub returns : goal.returns
 returns c =
     let s = c.args.self.now in
     let xs = vec_items s.stored in
-    let n = length_strings xs in
-    let ok = c.insert.ensures.succeeds (omega (arith, s.stored.ok.0, s.room)) in
-    strings_inserted xs (vec_items c.insert.new.self) c.args.at c.args.prefix (c.insert.ensures.items ∙ cond-true _ _ _ ok)
+    let ok = c.insert.ensures.succeeds (omega (arith, s.stored.ok.0, s.room, length_strings xs)) in
+    let strs : strings (vec_items c.insert.new.self) ≡ insert (held s) c.args.at (spelled c.args.prefix) =
+    strings_inserted xs _ c.args.at c.new.result (c.insert.ensures.items ∙ cond-true _ _ _ ok) ∙ ap (insert (held s) c.args.at) c.new.ensures in
+    let whole = with_items_is c.insert.new.self c.relink.new.stored (omega (arith, c.relink.auto.stored, c.deref_mut.ensures.len)) in
+    ap strings whole ∙ c.relink.ensures.strings ∙ ap strings c.deref_mut.ensures.value ∙ strs

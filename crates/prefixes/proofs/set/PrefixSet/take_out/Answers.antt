@@ -1,39 +1,38 @@
 use Rattle.std.proofs.Common.{◌≡◌, ℕ, List, length, vec_items, sym, ap, ◌∙◌, subst, arith}
+use Rattle.std.specs.List.{remove}
 use Rattle.std.proofs.lemmas.List.{with_items_is}
-use Rattle.prefixes.specs.Stored.{strings, Ascending}
-use Rattle.prefixes.proofs.StoredLaws.{ascending_of, length_strings}
-use Rattle.prefixes.proofs.EditLaws.{ascending_removed, strings_removed, ascending_same, linked_same}
+use Rattle.prefixes.specs.Held.{held}
+use Rattle.prefixes.specs.Stored.{Ascending, LinkedTo}
+use Rattle.prefixes.specs.StoredStrings.{strings, links}
+use Rattle.prefixes.specs.declared.stored.Stored.{Stored}
+use Rattle.prefixes.proofs.EditLaws.{ascending_removed, strings_removed}
 use Rattle.prefixes.proofs.set.PrefixSet.take_out.Goals as goal
-
-pub remove-requires : goal.remove-requires
-remove-requires c =
-    let s = c.args.self.now in
-    omega (arith, length_strings (vec_items s.stored), s.stored.ok.0)
 
 pub relink-requires : goal.relink-requires
 relink-requires c =
     let s = c.args.self.now in
     let xs = vec_items s.stored in
-    let n = length_strings xs in
-    record {
-      ascending = ascending_same (vec_items c.remove.new.self) c.deref.result.now c.deref.ensures.value
-          (subst (λ (ss : List (List ℕ)). Ascending ss) (sym (strings_removed xs (vec_items c.remove.new.self) c.args.at c.remove.ensures.items))
-          (ascending_removed (strings xs) c.args.at c.requires.above c.requires.within (ascending_of (strings xs) s.ascending)));
-      level = omega (arith, s.stored.ok.0, s.links.ok.0, s.level, c.remove.ensures.len, c.truncate.ensures.len, c.len.ensures, c.deref.ensures.len, c.deref_mut.ensures.len);
-    }
+    let strs : strings (vec_items c.remove.new.self) ≡ remove (held s) c.args.at = strings_removed xs _ c.args.at c.remove.ensures.items in
+    subst (λ (ts : List (List ℕ)). Ascending ts) (sym (ap strings c.deref_mut.ensures.value ∙ strs))
+    (ascending_removed (held s) c.args.at c.requires.above c.requires.within s.ascending)
 
 pub invariant_of-self : goal.invariant_of-self
 invariant_of-self c =
     let s = c.args.self.now in
     let xs = vec_items s.stored in
-    let n = length_strings xs in
-    let links = with_items_is c.truncate.new.self c.relink.new.links (omega (arith, c.relink.auto.links, c.deref_mut.ensures.len)) in record {
-      ascending = ∣ subst (λ (ss : List (List ℕ)). Ascending ss) (sym (strings_removed xs (vec_items c.remove.new.self) c.args.at c.remove.ensures.items))
-          (ascending_removed (strings xs) c.args.at c.requires.above c.requires.within (ascending_of (strings xs) s.ascending)) ∣₁;
-      level = ap length links ∙ (let e : length c.relink.new.links ≡ length (vec_items c.remove.new.self) = omega (arith, s.stored.ok.0, s.links.ok.0, s.level, c.remove.ensures.len, c.truncate.ensures.len, c.len.ensures, c.deref_mut.ensures.len, c.relink.auto.links, c.remove.new.self.ok.0) in e);
-      linked = ∣ linked_same c.deref.result.now (vec_items c.remove.new.self) c.relink.new.links _ (sym c.deref.ensures.value) links c.relink.ensures ∣₁;
-      room = (omega (arith, c.remove.ensures.capacity, s.room), omega (arith, c.truncate.ensures.capacity, s.room));
+    let strs : strings (vec_items c.remove.new.self) ≡ remove (held s) c.args.at = strings_removed xs _ c.args.at c.remove.ensures.items in
+    let whole = with_items_is c.remove.new.self c.relink.new.stored (omega (arith, c.relink.auto.stored, c.deref_mut.ensures.len)) in
+    record {
+      ascending = subst (λ (ts : List (List ℕ)). Ascending ts) (sym (ap strings whole ∙ c.relink.ensures.strings ∙ ap strings c.deref_mut.ensures.value ∙ strs))
+          (ascending_removed (held s) c.args.at c.requires.above c.requires.within s.ascending);
+      linked = subst (λ (ys : List Stored). LinkedTo (strings ys) (links ys) (length ys)) (sym whole) c.relink.ensures.linked;
+      room = omega (arith, c.remove.ensures.capacity, s.room);
     }
 
 pub returns : goal.returns
-returns c = strings_removed (vec_items c.args.self.now.stored) (vec_items c.remove.new.self) c.args.at c.remove.ensures.items
+returns c =
+    let s = c.args.self.now in
+    let xs = vec_items s.stored in
+    let strs : strings (vec_items c.remove.new.self) ≡ remove (held s) c.args.at = strings_removed xs _ c.args.at c.remove.ensures.items in
+    let whole = with_items_is c.remove.new.self c.relink.new.stored (omega (arith, c.relink.auto.stored, c.deref_mut.ensures.len)) in
+    ap strings whole ∙ c.relink.ensures.strings ∙ ap strings c.deref_mut.ensures.value ∙ strs
