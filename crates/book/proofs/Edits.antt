@@ -113,12 +113,12 @@ module _ (t i : ℕ) (es fs : List Entry) (x r : Entry) (is : fs ≡ swap_remove
 pub live_past : (t n : ℕ) (es : List Entry) → t < n → NoneBefore n es → AllLive t es
 live_past t n es l waiting k w d = let b : n ≤ (get_or es k d).deadline = waiting k d w in lt-ltb _ _ (omega arith)
 
--- a swept book has room, or all that it has room for are live
-pub swept_room : (t n : ℕ) (es fs : List Entry) → n ≡ length fs → length fs ≤ 1024 → Same t fs es → AllLive t fs
-    → (b : Bool) → ltb n 1024 ≡ b → MatchBool b (RoomMade t es fs) (Full t es fs)
-swept_room t n es fs len most same all true e =
-    let few : n < 1024 = grind (arith, nat_tests) in
-    record { fewer = omega (arith, count_by-le-length (λ e. live t e && true) fs, same (λ _. true)); few = omega arith; same = same }
-swept_room t n es fs len most same all false e =
-    let full : 1024 ≤ n = grind (arith, nat_tests) in
-    record { full = omega (arith, all_live t fs all, same (λ _. true)); same = same }
+pub has_room : (t : ℕ) (es fs : List Entry) → length fs < 1024 → Same t fs es → RoomMade t es fs
+has_room t es fs few same = record {
+  fewer = omega (arith, count_by-le-length (λ e. live t e && true) fs, few, same (λ _. true));
+  few = few;
+  same = same;
+}
+
+pub is_full : (t : ℕ) (es fs : List Entry) → length fs ≡ 1024 → Same t fs es → AllLive t fs → Full t es fs
+is_full t es fs most same all = record { full = omega (arith, all_live t fs all, same (λ _. true), most); same = same }

@@ -10,7 +10,7 @@ use Rattle.book.specs.declared.passage.Passage.{Passage}
 use Rattle.book.specs.Places.{Apart}
 use Rattle.book.specs.Steps.{erases, advanced}
 use Rattle.book.specs.Live.{live, live_entries, Same, live_count, live_total, without}
-use Rattle.book.specs.Passages.{fits_from, flow_from, flags_of, opens_new, opened_entry, fit_from, or_fit, fit_of, Settles, answer_for, entries_for}
+use Rattle.book.specs.Passages.{fits_from, flow_from, flags_of, opens_new, opened_entry, from_side, fit_from, or_fit, fit_of, Settles, answer_for, entries_for}
 use Rattle.book.proofs.Weigh.{sum_agree, sum_kept}
 use Rattle.book.proofs.Edits.{same_without, same_cons}
 use Rattle.book.proofs.Agree.{same_find, once}
@@ -45,8 +45,8 @@ module _ (p : Passage) (t : ℕ) (es m : List Entry) (same : Same t es m) where
   -- a packet fits the same entry
   pub fit_alike : Apart es → fit_of t p m ≡ fit_of t p es
   fit_alike asc =
-      let a : fit_from t p m Opener ≡ fit_from t p es Opener = ap (λ o. cond (fits_from Opener p.kind) o None) (same_find t (flow_from p Opener) es m same (once t (flow_from p Opener) es asc)) in
-      let b : fit_from t p m Other ≡ fit_from t p es Other = ap (λ o. cond (fits_from Other p.kind) o None) (same_find t (flow_from p Other) es m same (once t (flow_from p Other) es asc)) in
+      let a : fit_from t p m Opener ≡ fit_from t p es Opener = ap (λ o. cond (fits_from Opener p.kind) (from_side Opener o) None) (same_find t (flow_from p Opener) es m same (once t (flow_from p Opener) es asc)) in
+      let b : fit_from t p m Other ≡ fit_from t p es Other = ap (λ o. cond (fits_from Other p.kind) (from_side Other o) None) (same_find t (flow_from p Other) es m same (once t (flow_from p Other) es asc)) in
       ap (λ o. or_fit o (fit_from t p m Other)) a ∙ ap (λ o. or_fit (fit_from t p es Opener) o) b
 
   module _ (fs : List Entry) (r : Answer) where

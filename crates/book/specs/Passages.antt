@@ -65,14 +65,17 @@ fits_from Other kind.Unconnected = false
 abbrev pub opened_entry : Passage → ℕ → Entry
 opened_entry p t = record { flow = flow_from p Opener; state = Opened; deadline = t + lifetime_of (protocol_of p.kind) Opened }
 
--- the live entry that a packet fits from the side
-abbrev pub fit_from : ℕ → Passage → List Entry → Side → Option Entry
-fit_from t p es side = cond (fits_from side p.kind) (find t (flow_from p side) es) None
+abbrev pub from_side : Side → Option Entry → Option Fit
+from_side side (Some e) = Some (record { entry = e; side = side })
+from_side side None = None
 
-abbrev pub or_fit : Option Entry → Option Entry → Option Fit
-or_fit (Some e) o = Some (record { entry = e; side = Opener })
-or_fit None (Some e) = Some (record { entry = e; side = Other })
-or_fit None None = None
+-- the live entry that a packet fits from the side
+abbrev pub fit_from : ℕ → Passage → List Entry → Side → Option Fit
+fit_from t p es side = cond (fits_from side p.kind) (from_side side (find t (flow_from p side) es)) None
+
+abbrev pub or_fit : Option Fit → Option Fit → Option Fit
+or_fit (Some x) o = Some x
+or_fit None o = o
 
 -- the live entry that a packet fits, from the opener first
 abbrev pub fit_of : ℕ → Passage → List Entry → Option Fit

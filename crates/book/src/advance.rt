@@ -19,10 +19,7 @@ pub enum Outcome {
 fn has_flag(flags: Option<u8>, flag: u8) -> bool
     ensures result { result ≡ has_flag flags flag }
 {
-    match flags {
-        Some(bits) => bits & flag != 0,
-        None => false,
-    }
+    flags.is_some_and(|bits| bits & flag != 0)
 }
 
 impl Entry {

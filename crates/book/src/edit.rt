@@ -4,12 +4,13 @@ ghost use Rattle.std.specs.List.{swap_remove};
 ghost use Rattle.book.specs.Books.{stored};
 ghost use Rattle.book.specs.Places.{Absent};
 ghost use Rattle.book.specs.Live.{Same, without, find, Fitted};
+ghost use Rattle.book.specs.Passages.{flow_from, flags_of};
 
 use crate::advance::Outcome;
 use crate::book::Book;
 use crate::entry::{Entry, Side};
-use crate::flow::Flow;
 use crate::index::note;
+use crate::passage::Passage;
 
 impl Book {
     // Adds an entry of a flow that has none.
@@ -62,23 +63,15 @@ impl Book {
         }
     }
 
-    // Takes the step of a packet that fits the flow's entry from the side, if such an entry is live.
-    pub(crate) fn advance(
-        &mut self,
-        flow: Flow,
-        side: Side,
-        flags: Option<u8>,
-        clock: u32,
-    ) -> Option<Outcome>
-        ensures result { Fitted flow side flags clock (stored self.old) (stored self.new) result (find clock flow (stored self.old)) }
+    // Takes the step of a packet on the entry that it fits from the side, if such an entry is live.
+    pub(crate) fn advance(&mut self, passage: &Passage, side: Side, clock: u32) -> Option<Outcome>
+        ensures result { Fitted (flow_from passage.now side) side (flags_of passage.now.kind) clock (stored self.old) (stored self.new) result (find clock (flow_from passage.now side) (stored self.old)) }
     {
-        let Some(i) = self.place(flow) else {
-            return None;
-        };
-        if self.entries[i].deadline <= u64::from(clock) {
+        let i = self.place(passage.flow(side))?;
+        if !self.entries[i].is_live(clock) {
             return None;
         }
-        let outcome = self.entries[i].advance(side, flags, clock);
+        let outcome = self.entries[i].advance(side, passage.flags(), clock);
         let deadline = self.entries[i].deadline;
         self.earliest = self.earliest.min(deadline);
         match outcome {

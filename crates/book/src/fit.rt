@@ -16,32 +16,21 @@ pub struct Fit {
 
 impl Book {
     // The live entry that the packet fits from the side.
-    fn fit_from(&self, passage: &Passage, side: Side, clock: u32) -> Option<Entry>
+    fn fit_from(&self, passage: &Passage, side: Side, clock: u32) -> Option<Fit>
         ensures result { result ≡ fit_from clock passage.now (stored self.now) side }
     {
-        if passage.fits_from(side) {
-            self.find(passage.flow(side), clock)
-        } else {
-            None
+        if !passage.fits_from(side) {
+            return None;
         }
+        let entry = self.find(passage.flow(side), clock)?;
+        Some(Fit { entry, side })
     }
 
     // The live entry that the packet fits, from the opener first.
     pub(crate) fn fit(&self, passage: &Passage, clock: u32) -> Option<Fit>
         ensures result { result ≡ fit_of clock passage.now (stored self.now) }
     {
-        if let Some(entry) = self.fit_from(passage, Side::Opener, clock) {
-            return Some(Fit {
-                entry,
-                side: Side::Opener,
-            });
-        }
-        if let Some(entry) = self.fit_from(passage, Side::Other, clock) {
-            return Some(Fit {
-                entry,
-                side: Side::Other,
-            });
-        }
-        None
+        self.fit_from(passage, Side::Opener, clock)
+            .or_else(|| self.fit_from(passage, Side::Other, clock))
     }
 }

@@ -36,21 +36,21 @@ impl Keys {
             protocol: key(seed, 4),
         }
     }
-}
 
-// The slot at which the walk for the flow begins: the top 12 bits of a sum of products, mixed so that flows in a row do not
-// stand in a row.
-pub(crate) fn home_of(keys: Keys, flow: Flow) -> usize
-    ensures result { result ≡ home keys flow }
-    ensures below { result < 4096 }
-{
-    let ports = u64::from(flow.opener.port) * 0x1_0000 + u64::from(flow.other.port);
-    let sum = keys
-        .opener
-        .wrapping_mul(u64::from(flow.opener.address.bits))
-        .wrapping_add(keys.other.wrapping_mul(u64::from(flow.other.address.bits)))
-        .wrapping_add(keys.ports.wrapping_mul(ports))
-        .wrapping_add(keys.protocol.wrapping_mul(u64::from(flow.protocol.value())));
-    let mixed = (sum ^ (sum >> 32)).wrapping_mul(0x9e37_79b9_7f4a_7c15);
-    (mixed >> 52) as usize
+    // The slot at which the walk for the flow begins: the top 12 bits of a sum of products, mixed so that flows in a row
+    // do not stand in a row.
+    pub(crate) fn home(self, flow: Flow) -> usize
+        ensures result { result ≡ home self flow }
+        ensures below { result < 4096 }
+    {
+        let ports = u64::from(flow.opener.port) * 0x1_0000 + u64::from(flow.other.port);
+        let sum = self
+            .opener
+            .wrapping_mul(u64::from(flow.opener.address.bits))
+            .wrapping_add(self.other.wrapping_mul(u64::from(flow.other.address.bits)))
+            .wrapping_add(self.ports.wrapping_mul(ports))
+            .wrapping_add(self.protocol.wrapping_mul(u64::from(flow.protocol as u8)));
+        let mixed = (sum ^ (sum >> 32)).wrapping_mul(0x9e37_79b9_7f4a_7c15);
+        (mixed >> 52) as usize
+    }
 }

@@ -4,8 +4,8 @@ ghost use Rattle.book.specs.Index.{Reached, ReachedBut, Linked, FreeAt, Sound, f
 ghost use Rattle.book.specs.Places.{Held, Absent};
 
 use crate::entry::Entry;
-use crate::flow::{Flow, same};
-use crate::hash::{Keys, home_of};
+use crate::flow::Flow;
+use crate::hash::Keys;
 
 pub(crate) const SLOTS: usize = 4096;
 
@@ -14,14 +14,14 @@ pub(crate) fn seek(keys: Keys, entries: &[Entry], slots: &[u16], flow: Flow) -> 
     requires { (length slots.now ≡ 4096) × (Reached keys slots.now entries.now (length entries.now)) }
     ensures result { MatchOption result (Absent entries.now flow) (λ i. Held entries.now flow i) }
 {
-    let home = home_of(keys, flow);
+    let home = keys.home(flow);
     for j in 0..SLOTS {
         let slot = slots[(home + j) % SLOTS];
         if slot == 0 {
             return None;
         }
         let number = usize::from(slot) - 1;
-        if number < entries.len() && same(entries[number].flow, flow) {
+        if number < entries.len() && entries[number].is_of(flow) {
             return Some(number);
         }
     }
@@ -60,7 +60,7 @@ fn rebuild(keys: Keys, entries: &[Entry], slots: &mut Vec<u16>) -> usize
 {
     slots.fill(0);
     for n in 0..entries.len() {
-        link(slots, home_of(keys, entries[n].flow), n as u16);
+        link(slots, keys.home(entries[n].flow), n as u16);
     }
     SLOTS - entries.len()
 }
@@ -81,6 +81,6 @@ pub(crate) fn note(
     if free <= SLOTS / 2 {
         return rebuild(keys, entries, slots);
     }
-    link(slots, home_of(keys, entries[number].flow), number as u16);
+    link(slots, keys.home(entries[number].flow), number as u16);
     free - 1
 }

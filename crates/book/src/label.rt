@@ -21,13 +21,8 @@ impl Book {
     {
         match self.fit(passage, clock) {
             Some(fit) => fit.entry.label(fit.side),
-            None => {
-                if passage.opens() {
-                    Label::New
-                } else {
-                    Label::Invalid
-                }
-            }
+            None if passage.opens() => Label::New,
+            None => Label::Invalid,
         }
     }
 }

@@ -26,16 +26,8 @@ impl Book {
     pub(crate) fn find(&self, flow: Flow, clock: u32) -> Option<Entry>
         ensures result { result ≡ find clock flow (stored self.now) }
     {
-        match self.place(flow) {
-            Some(i) => {
-                let entry = self.entries[i];
-                if u64::from(clock) < entry.deadline {
-                    Some(entry)
-                } else {
-                    None
-                }
-            }
-            None => None,
-        }
+        let i = self.place(flow)?;
+        let entry = self.entries[i];
+        entry.is_live(clock).then_some(entry)
     }
 }

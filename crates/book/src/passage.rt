@@ -7,9 +7,9 @@ use crate::flow::{End, Flow, Protocol};
 use crate::lifetime::lifetime;
 use fields::values::flags::{ACK, FIN, RST, SYN};
 
-#[derive(Clone, Copy)]
+#[derive(Clone, Copy, PartialEq, Eq, Debug)]
 pub enum Kind {
-    // with its flags
+    // with its flags: any byte, since a narrower type would ask more of callers
     Tcp(u8),
     Udp,
     EchoRequest,
@@ -19,7 +19,7 @@ pub enum Kind {
 }
 
 // Plain numbers only, so that it can outlive the packet. The ends of an unconnected packet do not matter.
-#[derive(Clone, Copy)]
+#[derive(Clone, Copy, PartialEq, Eq, Debug)]
 pub struct Passage {
     pub kind: Kind,
     pub source: End,

@@ -1,22 +1,13 @@
 // The step of a packet.
 ghost use Rattle.std.specs.Prelude.{◌≡◌, ℕ, ◌≤◌, List};
 ghost use Rattle.book.specs.Books.{Keeps, stored};
-ghost use Rattle.book.specs.Passages.{answer_of, fit_of, Settles, answer_at, entries_at};
+ghost use Rattle.book.specs.Passages.{fit_of, Settles, answer_at, entries_at};
 
-use crate::advance::Outcome;
 use crate::answer::Answer;
 use crate::book::Book;
 use crate::entry::Entry;
 use crate::passage::Passage;
-
-fn answer(outcome: Outcome) -> Answer
-    ensures result { result ≡ answer_of outcome }
-{
-    match outcome {
-        Outcome::Renewed => Answer::Renewed,
-        Outcome::Erased => Answer::Erased,
-    }
-}
+use crate::room::BookFull;
 
 impl Book {
     // Takes the step of the packet at the clock. The answer and the entries that are live at every later clock are told
@@ -32,25 +23,15 @@ impl Book {
         ensures result { Settles passage.now clock (stored self.old) (stored self.new) result (fit_of clock passage.now (stored self.old)) }
     {
         match self.fit(passage, clock) {
-            Some(fit) => match self.advance(
-                passage.flow(fit.side),
-                fit.side,
-                passage.flags(),
-                clock,
-            ) {
-                Some(outcome) => answer(outcome),
+            Some(fit) => match self.advance(passage, fit.side, clock) {
+                Some(outcome) => Answer::from(outcome),
                 None => Answer::Nothing,
             },
-            None => {
-                if !passage.opens() {
-                    return Answer::Nothing;
-                }
-                if self.create(passage.opened(clock), clock) {
-                    Answer::Created
-                } else {
-                    Answer::BookFull
-                }
-            }
+            None if passage.opens() => match self.create(passage.opened(clock), clock) {
+                Ok(()) => Answer::Created,
+                Err(BookFull) => Answer::BookFull,
+            },
+            None => Answer::Nothing,
         }
     }
 }

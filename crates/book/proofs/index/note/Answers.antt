@@ -6,7 +6,7 @@ pub returns : goal.returns
 returns c = record {
   later = record {
     reached =
-        reached_linked c.args.keys _ _ c.args.entries.now _ c.args.number (length c.args.entries.now) _ c.link.ensures.later c.home_of.ensures.result
+        reached_linked c.args.keys _ _ c.args.entries.now _ c.args.number (length c.args.entries.now) _ c.link.ensures.later c.home.ensures.result
         c.requires.1.1.0 c.requires.1.1.1.1;
     counted = omega (arith, c.link.ensures.later.fewer, c.requires.1.1.1.0);
   };

@@ -16,7 +16,7 @@ pub loop-n-preserved : goal.loop-n-preserved
 loop-n-preserved c = (
   c.link.ensures.len,
   omega (arith, c.link.ensures.later.fewer, c.loop-n.invariant.1),
-  reached_linked c.args.keys _ _ c.args.entries.now _ c.loop-n.n (c.loop-n.n + 1) _ c.link.ensures.later c.home_of.ensures.result c.loop-n-test.true
+  reached_linked c.args.keys _ _ c.args.entries.now _ c.loop-n.n (c.loop-n.n + 1) _ c.link.ensures.later c.home.ensures.result c.loop-n-test.true
       (λ k d l ne. c.loop-n.invariant.2 k d (let t : (k ≡ c.loop-n.n → ⊥) = ne in omega arith)),
 )
 

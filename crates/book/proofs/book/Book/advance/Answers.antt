@@ -3,11 +3,12 @@ use Rattle.std.specs.List.{swap_remove}
 use Rattle.book.specs.declared.entry.Entry.{Entry}
 use Rattle.book.specs.declared.advance.Outcome.{Outcome}
 use Rattle.book.specs.Steps.{erases, advanced}
-use Rattle.book.specs.Places.{Held}
+use Rattle.book.specs.Places.{Held, Absent}
+use Rattle.book.specs.Passages.{flow_from, flags_of}
 use Rattle.book.specs.declared.flow.Flow.{Flow}
 use Rattle.book.specs.declared.entry.Side.{Side}
 use Rattle.book.proofs.Orders.{apart_set, reached_set, none_before_set}
-use Rattle.book.specs.Live.{find, Fitted}
+use Rattle.book.specs.Live.{live, find, Fitted}
 use Rattle.book.proofs.Fits.{renewed_keeps, erased_ends, read_any, fit_none, fit_dead, fit_renewed, fit_erased}
 use Rattle.book.proofs.book.Book.advance.Goals as goal
 
@@ -17,11 +18,11 @@ when_true b x y e = rw e
 when_false : {X : Type 0} (b : Bool) (x y : X) → b ≡ false → cond b x y ≡ y
 when_false b x y e = rw e
 
--- two reads of one entry have one deadline
-later_read : (es : List Entry) (i : ℕ) (x y : Entry) (t : ℕ) → i < length es → x ≡ get_or es i x → y ≡ get_or es i y → t < x.deadline → t < y.deadline
-later_read es i x y t l h k b =
-    let e : x ≡ y = read_any es i x y l h ∙ sym k in
-    subst (λ (w : Entry). t < w.deadline) e b
+-- two reads of one entry are live alike
+live_read : (es : List Entry) (i : ℕ) (x y : Entry) (t : ℕ) → i < length es → x ≡ get_or es i x → y ≡ get_or es i y → live t x ≡ true → live t y ≡ true
+live_read es i x y t l h k v =
+    let P : Entry → Type 0 = λ e. live t e ≡ true in
+    subst P (read_any es i x y l h ∙ sym k) v
 
 flow_stays : (b : Bool) (y : Entry) (side : Side) (flags : Option ℕ) (t : ℕ) → (cond b y (advanced y side flags t)).flow ≡ y.flow
 flow_stays true y side flags t = refl
@@ -31,12 +32,12 @@ pub invariant_of-self : goal.invariant_of-self
 invariant_of-self c =
     let now = c.args.self.now in
     let es = vec_items now.entries in
-    let i = c.in-Some.i in
+    let i = c.in_ok-i.i in
     let y = c.index_mut.result.now in
     let x = c.advance-outcome.new.self in
-    let held = c.in-Some.ensures.result in
+    let held = c.in_ok-i.ensures.result in
     let F : Entry → Flow = λ e. e.flow in
-    let same : x.flow ≡ c.args.flow = ap F c.advance-outcome.ensures.later ∙ flow_stays (erases c.args.flags) y c.args.side c.args.flags c.args.clock ∙ ap F c.index_mut.ensures.value ∙ held.1 y in
+    let same : x.flow ≡ c.flow.result = ap F c.advance-outcome.ensures.later ∙ flow_stays (erases c.flags.result) y c.args.side c.flags.result c.args.clock ∙ ap F c.index_mut.ensures.value ∙ held.1 y in
     let read : c.index-2.result.now ≡ x = c.index-2.ensures ∙ get_or-set_same es i x c.index-2.result.now held.0 in
     let D : Entry → Type 0 = λ e. c.min-self.result ≤ e.deadline in
     let low = subst D read (omega (arith, c.min-self.ensures)) in
@@ -51,51 +52,64 @@ invariant_of-self c =
       waiting = none_before_set now.earliest c.min-self.result es i x held.0 now.waiting (omega (arith, c.min-self.ensures)) low;
     }
 
-pub returns-in_default : goal.returns-in_default
-returns-in_default c = record {
-  result =
-      fit_none c.args.flow c.args.side c.args.flags c.args.clock (vec_items c.args.self.now.entries) 0 c.in_default.ensures.result;
-}
-
-pub returns-then-index-from : goal.returns-then-index-from
-returns-then-index-from c =
+pub returns-in_err-i : goal.returns-in_err-i
+returns-in_err-i c =
     let es = vec_items c.args.self.now.entries in
+    let f = flow_from c.args.passage.now c.args.side in
+    let flags = flags_of c.args.passage.now.kind in
+    let A : Flow → Type 0 = λ g. Absent es g in
+    let P : Option Outcome → Type 0 = λ r. Fitted f c.args.side flags c.args.clock es es r (find c.args.clock f es) in
+    record { result = subst P (sym c.from_residual.ensures) (fit_none f c.args.side flags c.args.clock es 0 (subst A c.flow.ensures.result c.in_err-i.ensures.result)) }
+
+pub returns-then-not-is_live : goal.returns-then-not-is_live
+returns-then-not-is_live c =
+    let es = vec_items c.args.self.now.entries in
+    let f = flow_from c.args.passage.now c.args.side in
+    let H : Flow → Type 0 = λ g. Held es g c.in_ok-i.i in
     record {
-      result = fit_dead c.args.flow c.args.side c.args.flags c.args.clock es c.in-Some.i
-          c.args.self.now.apart c.in-Some.ensures.result c.index.result.now c.index.ensures (omega (arith, c.if-index-from.true, c.from.ensures));
+      result = fit_dead f c.args.side (flags_of c.args.passage.now.kind) c.args.clock es c.in_ok-i.i
+          c.args.self.now.apart (subst H c.flow.ensures.result c.in_ok-i.ensures.result) c.index.result.now c.index.ensures (sym c.if-not-is_live.ensures.result);
     }
 
 pub returns-in-Renewed : goal.returns-in-Renewed
 returns-in-Renewed c =
     let es = vec_items c.args.self.now.entries in
-    let i = c.in-Some.i in
+    let i = c.in_ok-i.i in
     let t = c.args.clock in
+    let f = flow_from c.args.passage.now c.args.side in
+    let flags = flags_of c.args.passage.now.kind in
     let y = c.index_mut.result.now in
-    let held = c.in-Some.ensures.result in
-    let out = c.in-Renewed.ensures in
-    let stays = renewed_keeps (erases c.args.flags) out.result in
-    let l : t < y.deadline = later_read es i c.index.result.now y t held.0 c.index.ensures c.index_mut.ensures.value (omega (arith, c.if-index-from.false, c.from.ensures)) in
-    let P : Outcome → Type 0 = λ o. Fitted c.args.flow c.args.side c.args.flags t es (set es i c.advance-outcome.new.self) (Some o) (find t c.args.flow es) in
+    let H : Flow → Type 0 = λ g. Held es g i in
+    let held = subst H c.flow.ensures.result c.in_ok-i.ensures.result in
+    let stays = renewed_keeps (erases c.flags.result) c.in-Renewed.ensures.result in
+    let E : Option ℕ → Type 0 = λ g. erases g ≡ false in
+    let Z : Option ℕ → Type 0 = λ g. c.advance-outcome.new.self ≡ advanced y c.args.side g t in
+    let v = live_read es i c.index.result.now y t held.0 c.index.ensures c.index_mut.ensures.value (sym c.if-not-is_live.ensures.result) in
+    let P : Outcome → Type 0 = λ o. Fitted f c.args.side flags t es (set es i c.advance-outcome.new.self) (Some o) (find t f es) in
     record {
       result = subst P (sym c.in-Renewed.is)
-          (fit_renewed c.args.flow c.args.side c.args.flags t es i c.args.self.now.apart held y c.index_mut.ensures.value l
-          c.advance-outcome.new.self stays (out.later ∙ when_false _ _ _ stays));
+          (fit_renewed f c.args.side flags t es i c.args.self.now.apart held y c.index_mut.ensures.value c.advance-outcome.new.self v
+          (subst E c.flags.ensures.result stays) (subst Z c.flags.ensures.result (c.in-Renewed.ensures.later ∙ when_false _ _ _ stays)));
     }
 
 pub returns-in-Erased : goal.returns-in-Erased
 returns-in-Erased c =
     let es = vec_items c.args.self.now.entries in
-    let i = c.in-Some.i in
+    let i = c.in_ok-i.i in
     let t = c.args.clock in
+    let f = flow_from c.args.passage.now c.args.side in
+    let flags = flags_of c.args.passage.now.kind in
     let y = c.index_mut.result.now in
-    let held = c.in-Some.ensures.result in
-    let out = c.in-Erased.ensures in
-    let ends = erased_ends (erases c.args.flags) out.result in
-    let l : t < y.deadline = later_read es i c.index.result.now y t held.0 c.index.ensures c.index_mut.ensures.value (omega (arith, c.if-index-from.false, c.from.ensures)) in
-    let P : Outcome → Type 0 = λ o. Fitted c.args.flow c.args.side c.args.flags t es (swap_remove (set es i c.advance-outcome.new.self) i c.take_out.result) (Some o) (find t c.args.flow es) in
-    let Q : List Entry → Type 0 = λ xs. Fitted c.args.flow c.args.side c.args.flags t es xs (Some c.advance-outcome.result) (find t c.args.flow es) in
+    let z = c.advance-outcome.new.self in
+    let H : Flow → Type 0 = λ g. Held es g i in
+    let held = subst H c.flow.ensures.result c.in_ok-i.ensures.result in
+    let ends = erased_ends (erases c.flags.result) c.in-Erased.ensures.result in
+    let E : Option ℕ → Type 0 = λ g. erases g ≡ true in
+    let v = live_read es i c.index.result.now y t held.0 c.index.ensures c.index_mut.ensures.value (sym c.if-not-is_live.ensures.result) in
+    let P : Outcome → Type 0 = λ o. Fitted f c.args.side flags t es (swap_remove (set es i z) i c.take_out.result) (Some o) (find t f es) in
+    let Q : List Entry → Type 0 = λ xs. Fitted f c.args.side flags t es xs (Some c.advance-outcome.result) (find t f es) in
     record {
       result = subst Q (sym c.take_out.ensures.later) (subst P (sym c.in-Erased.is)
-          (fit_erased c.args.flow c.args.side c.args.flags t es i c.args.self.now.apart held y c.index_mut.ensures.value l
-          c.advance-outcome.new.self c.take_out.result ends (out.later ∙ when_true _ _ _ ends)));
+          (fit_erased f c.args.side flags t es i c.args.self.now.apart held y c.index_mut.ensures.value z c.take_out.result v
+          (subst E c.flags.ensures.result ends) (c.in-Erased.ensures.later ∙ when_true _ _ _ ends)));
     }

@@ -5,7 +5,7 @@ use Rattle.book.proofs.book.Book.create.Goals as goal
 
 pub returns : goal.returns
 returns c =
-    let made = c.if-not-make_room.ensures.result in
+    let made = c.in_ok-make_room.ensures.result in
     let t = c.args.clock in
     let x = c.args.entry in
     let es = vec_items c.args.self.now.entries in

@@ -12,6 +12,6 @@ returns-in-Some-advance c =
     let t = c.args.clock in
     let Q : Answer → Type 0 = λ r. Settles p t es fs r (fit_of t p es) in
     record {
-      result = subst Q (sym c.answer.ensures.result)
-          (settles t p es fs c.in-Some.fit c.flow.result c.flags.result _ c.flow.ensures.result c.flags.ensures.result c.in-Some.ensures.result c.in-Some-advance.ensures.result);
+      result = subst Q (sym c.from.ensures)
+          (settles t p es fs c.in-Some.fit _ c.in-Some.ensures.result c.in-Some-advance.ensures.result);
     }

@@ -1,6 +1,6 @@
 use Rattle.std.proofs.Common.{rules}
 use Rattle.book.specs.Home.{home}
-use Rattle.book.proofs.hash.home_of.Goals as goal
+use Rattle.book.proofs.hash.Keys.home.Goals as goal
 
 pub returns : goal.returns
 unfolding home
