@@ -58,10 +58,6 @@ module _ (t : ℕ) where
   pub same_dead : (es : List Entry) (i : ℕ) (d : Entry) → i < length es → live t (get_or es i d) ≡ false → Same t (swap_remove es i d) es
   same_dead es i d l v p = omega (arith, sum_swapped (weight t p) es i d d l, no_weight p (get_or es i d) v)
 
-  pub fewer_live : (es : List Entry) (i : ℕ) (d : Entry) → i < length es → live t (get_or es i d) ≡ false → live_total t es < length es
-  fewer_live es i d l v =
-      omega (arith, same_dead es i d l v (λ _. true), count_by-le-length (λ e. live t e && true) (swap_remove es i d), length_swapped es i d l)
-
   pub all_live : (es : List Entry) → AllLive t es → live_total t es ≡ length es
   all_live [] f = refl
   all_live (x ∷ xs) f =

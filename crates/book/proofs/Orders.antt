@@ -1,5 +1,5 @@
 -- What an edit leaves of the invariants of a book.
-use Rattle.std.proofs.Common.{◌≡◌, ℕ, ◌+◌, ◌-◌, ◌<◌, ◌≤◌, ◌≢◌, List, length, get_or, set, sym, ap, ◌∙◌, subst, inl, inr, arith, length-set, get_or-set_other, get_or-set_same}
+use Rattle.std.proofs.Common.{◌≡◌, ℕ, ◌+◌, ◌-◌, ◌<◌, ◌≤◌, ◌≢◌, List, length, Option, get_or, set, sym, ap, ◌∙◌, subst, inl, inr, arith, length-set, get_or-set_other, get_or-set_same}
 use Rattle.book.specs.declared.flow.Flow.{Flow}
 use Rattle.book.specs.declared.entry.Entry.{Entry}
 use Rattle.book.specs.declared.hash.Keys.{Keys}
@@ -27,7 +27,7 @@ module _ (es : List Entry) (i : ℕ) (x : Entry) (held : Held es x.flow i) where
   apart_set apart a b d c =
       apart a b d (record { low = c.low; high = omega (arith, c.high, length-set es i x); same = sym (flow_set a d) ∙ c.same ∙ flow_set b d })
 
-  pub reached_set : (key : Keys) (ss : List ℕ) (n : ℕ) → Reached key ss es n → Reached key ss (set es i x) n
+  pub reached_set : (key : Keys) (ss : List (Option ℕ)) (n : ℕ) → Reached key ss es n → Reached key ss (set es i x) n
   reached_set key ss n r k d l = reached_at key ss es (set es i x) k d (flow_set k d) (r k d l)
 
 -- a write of a deadline that is not before m

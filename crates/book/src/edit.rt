@@ -9,25 +9,19 @@ ghost use Rattle.book.specs.Passages.{flow_from, flags_of};
 use crate::advance::Outcome;
 use crate::book::Book;
 use crate::entry::{Entry, Side};
-use crate::index::note;
 use crate::passage::Passage;
 
 impl Book {
     // Adds an entry of a flow that has none.
     fn add(&mut self, entry: Entry)
-        requires { (vec_len self.old.entries < 1024) × (Absent (stored self.old) entry.flow) }
+        requires room { vec_len self.old.entries < 1024 }
+        requires new { Absent (stored self.old) entry.flow }
         ensures later { stored self.new ≡ stored self.old ++ entry ∷ [] }
     {
         let number = self.entries.len();
         self.earliest = self.earliest.min(entry.deadline);
         let _ = self.entries.push(entry);
-        self.free = note(
-            self.keys,
-            self.entries.as_slice(),
-            &mut self.slots,
-            self.free,
-            number,
-        );
+        self.index.note(self.entries.as_slice(), number);
     }
 
     // Takes out an entry, whose number the last one then has.
@@ -38,13 +32,7 @@ impl Book {
     {
         let entry = self.entries.swap_remove(number);
         if number < self.entries.len() {
-            self.free = note(
-                self.keys,
-                self.entries.as_slice(),
-                &mut self.slots,
-                self.free,
-                number,
-            );
+            self.index.note(self.entries.as_slice(), number);
         }
         entry
     }

@@ -7,19 +7,13 @@ ghost use Rattle.book.specs.Places.{Held, Absent};
 use crate::book::Book;
 use crate::entry::Entry;
 use crate::flow::Flow;
-use crate::index::seek;
 
 impl Book {
     // The number of the flow's entry, live or not.
     pub(crate) fn place(&self, flow: Flow) -> Option<usize>
         ensures result { MatchOption result (Absent (stored self.now) flow) (λ i. Held (stored self.now) flow i) }
     {
-        seek(
-            self.keys,
-            self.entries.as_slice(),
-            self.slots.as_slice(),
-            flow,
-        )
+        self.index.seek(self.entries.as_slice(), flow)
     }
 
     // The live entry of the flow.

@@ -3,8 +3,7 @@ ghost use Rattle.std.specs.Prelude.{◌≡◌, [], IfOk};
 ghost use Rattle.book.specs.Books.{stored};
 
 use crate::book::{Book, CAPACITY};
-use crate::hash::Keys;
-use crate::index::SLOTS;
+use crate::index::Index;
 use std::alloc::{AllocError, Global};
 
 impl Book {
@@ -13,13 +12,9 @@ impl Book {
     pub fn new(heap: Global, seed: u64) -> Result<Book, AllocError>
         ensures result { IfOk result (λ b. stored b ≡ []) }
     {
-        let entries = Vec::with_capacity(heap, CAPACITY)?;
-        let slots = vec![in heap; 0u16; SLOTS]?;
         Ok(Book {
-            entries,
-            slots,
-            free: SLOTS,
-            keys: Keys::of(seed),
+            entries: Vec::with_capacity(heap, CAPACITY)?,
+            index: Index::new(seed),
             earliest: u64::MAX,
         })
     }

@@ -45,9 +45,7 @@ invariant_of-self c =
     record {
       room = now.room;
       few = now.few;
-      long = now.long;
-      counted = now.counted;
-      reached = reached_set es i x stays now.keys (vec_items now.slots) (vec_len now.entries) now.reached;
+      reached = reached_set es i x stays now.index.keys now.index.slots (vec_len now.entries) now.reached;
       apart = apart_set es i x stays now.apart;
       waiting = none_before_set now.earliest c.min-self.result es i x held.0 now.waiting (omega (arith, c.min-self.ensures)) low;
     }

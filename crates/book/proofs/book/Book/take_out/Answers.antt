@@ -19,13 +19,11 @@ invariant_of-self c =
     let kept : (k : ℕ) (d : Entry) → (k ≡ c.args.number → ⊥) → k + 1 < length es → get_or fs k d ≡ get_or es k d = (λ k d n w. left.by_index.1 k d n (omega arith)) in
     let gaps = apart_swapped es fs c.args.number now.apart len moved kept in
     let waiting = none_before_swapped es fs c.args.number now.apart len moved kept now.earliest now.waiting in
-    let P : List Entry → Type 0 = λ xs. Reached now.keys (vec_items c.note-self.new.slots) xs (length xs) in
-    let all = subst P c.as_slice.ensures.value c.note-self.ensures.later.reached in
+    let P : List Entry → Type 0 = λ xs. Reached c.note.new.self.keys c.note.new.self.slots xs (length xs) in
+    let all = subst P c.as_slice.ensures.value c.note.ensures.reached in
     record {
       room = omega (arith, left.capacity, now.room);
       few = omega (arith, left.len, now.few);
-      long = c.note-self.ensures.len;
-      counted = c.note-self.ensures.later.counted;
       reached = (λ k d l. all k d (omega (arith, l)));
       apart = gaps;
       waiting = waiting;
@@ -45,15 +43,13 @@ invariant_of-self-else-number-len c =
     let kept : (k : ℕ) (d : Entry) → (k ≡ c.args.number → ⊥) → k + 1 < length es → get_or fs k d ≡ get_or es k d = (λ k d n w. left.by_index.1 k d n (omega arith)) in
     let gaps = apart_swapped es fs c.args.number now.apart len moved kept in
     let waiting = none_before_swapped es fs c.args.number now.apart len moved kept now.earliest now.waiting in
-    let all : Reached now.keys (vec_items now.slots) fs (vec_len c.swap_remove-entry.new.self) = (λ k d l.
+    let all : Reached now.index.keys now.index.slots fs (vec_len c.swap_remove-entry.new.self) = (λ k d l.
     let w : k + 1 < vec_len now.entries = omega (arith, left.len) in
     let ne : (k ≡ c.args.number → ⊥) = (λ z. omega (arith, left.len, c.if-number-len.false, c.len.ensures)) in
-    reached_at now.keys (vec_items now.slots) es fs k d (ap (λ (e : Entry). e.flow) (left.by_index.1 k d ne w)) (now.reached k d (omega arith))) in
+    reached_at now.index.keys now.index.slots es fs k d (ap (λ (e : Entry). e.flow) (left.by_index.1 k d ne w)) (now.reached k d (omega arith))) in
     record {
       room = omega (arith, left.capacity, now.room);
       few = omega (arith, left.len, now.few);
-      long = now.long;
-      counted = now.counted;
       reached = all;
       apart = gaps;
       waiting = waiting;

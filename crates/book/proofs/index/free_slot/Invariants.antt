@@ -1,5 +1,0 @@
-use Rattle.book.specs.Index.{Taken}
-use Rattle.book.proofs.index.free_slot.Given as goal
-
-abbrev pub invariant-loop-j : goal.invariant-loop-j
-invariant-loop-j l = Taken l.slots l.home l.j
