@@ -156,11 +156,11 @@ module _ (t : ℕ) (f : Flow) where
   once_by x xs asc true e ih =
       let r : x.flow ≡ f = same_equal x.flow f (both (same_flow x.flow f) (live t x) e) in
       let none = first_none hit xs (λ k d l.
-      let a : same_flow (get_or xs k d).flow f ≡ false = apart_flows _ _ (λ z. asc 0 (suc k) d (record { low = omega arith; high = omega arith; same = r ∙ sym z })) in
+      let a : same_flow (get_or xs k d).flow f ≡ false = apart_flows _ _ (λ z. asc 0 (suc k) d (omega arith) (omega arith) (r ∙ sym z)) in
       rw a) in
       omega (arith, count_step hit xs x true e, zero_from_none hit xs none)
   once_by x xs asc false e ih = omega (arith, count_step hit xs x false e)
 
   pub once : (es : List Entry) → Apart es → count_by hit es ≤ 1
   once [] asc = omega arith
-  once (x ∷ xs) asc = once_by x xs asc (hit x) refl (once xs (λ i j d h. asc (suc i) (suc j) d (record { low = omega (arith, h.low); high = omega (arith, h.high); same = h.same })))
+  once (x ∷ xs) asc = once_by x xs asc (hit x) refl (once xs (λ i j d lo hi same. asc (suc i) (suc j) d (omega arith) (omega arith) same))

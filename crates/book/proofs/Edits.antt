@@ -2,13 +2,13 @@
 use Rattle.std.proofs.Common.{◌≡◌, ℕ, suc, ◌+◌, ◌-◌, ◌<◌, ◌≤◌, Bool, true, false, cond, not, ◌&&◌, ltb, List, [], ◌∷◌, ◌++◌, length, get_or, take, set, MatchBool, sum_by, sym, refl, ap, ◌∙◌, subst, arith, length-set, length-take-le, get_or-set_other, get_or-take, le-ltb, lt-ltb}
 use Rattle.std.specs.List.{swap_remove}
 use Rattle.std.proofs.lemmas.List.{get_or_default}
-use Rattle.std.proofs.lemmas.List.Sums.{sum_by-cons, sum_by_push, sum_by-set, count_by-le-length}
+use Rattle.std.proofs.lemmas.List.Sums.{sum_by-cons, sum_by_push, sum_by-set, sum_by-swap_remove, count_by-le-length}
 use Rattle.std.proofs.lemmas.Bool.Decides.{nat_tests}
 use Rattle.book.specs.declared.flow.Flow.{Flow}
 use Rattle.book.specs.declared.entry.Entry.{Entry}
 use Rattle.book.specs.Places.{Apart, Held, Absent}
 use Rattle.book.specs.Live.{same_flow, live, live_total, AllLive, NoneBefore, Same, without, RoomMade, Full}
-use Rattle.book.proofs.Weigh.{sum_agree, sum_but_one, sum_swapped, sum_kept}
+use Rattle.book.proofs.Weigh.{sum_agree, sum_but_one, sum_kept}
 use Rattle.book.proofs.Places.{off_held, off_absent, here_held}
 
 -- one for a live entry that passes
@@ -41,28 +41,14 @@ module _ (t : ℕ) (es : List Entry) (f : Flow) (i : ℕ) where
       omega (arith, sum_by_push (weight t p) es x, none_less btw p, sum_by-cons (weight t p) x (without f es))
 
   pub same_swapped : (r : Entry) → Apart es → Held es f i → Same t (swap_remove es i r) (without f es)
-  same_swapped r asc held p = omega (arith, sum_swapped (weight t p) es i r r held.0, one_less asc held p r)
-
-length_swapped : (es : List Entry) (i : ℕ) (d : Entry) → i < length es → length (swap_remove es i d) + 1 ≡ length es
-length_swapped es i d l =
-    let ys : List Entry = set es i (get_or es (length es - 1) d) in
-    let n : length ys ≡ length es = length-set es i (get_or es (length es - 1) d) in
-    let m : length (take (length es - 1) ys) ≡ length es - 1 = length-take-le (length es - 1) ys (omega arith) in
-    omega arith
+  same_swapped r asc held p = omega (arith, sum_by-swap_remove (weight t p) es i r held.0, one_less asc held p r)
 
 module _ (t : ℕ) where
-  no_weight : (p : Entry → Bool) (e : Entry) → live t e ≡ false → weight t p e ≡ 0
-  no_weight p e v = rw v
-
-  -- an entry that is not live can go
-  pub same_dead : (es : List Entry) (i : ℕ) (d : Entry) → i < length es → live t (get_or es i d) ≡ false → Same t (swap_remove es i d) es
-  same_dead es i d l v p = omega (arith, sum_swapped (weight t p) es i d d l, no_weight p (get_or es i d) v)
-
   pub all_live : (es : List Entry) → AllLive t es → live_total t es ≡ length es
   all_live [] f = refl
   all_live (x ∷ xs) f =
-      let a : weight t (λ _. true) x ≡ 1 = (let v : live t x ≡ true = f 0 (omega arith) x in rw v) in
-      let b = all_live xs (λ k l d. f (suc k) (omega arith) d) in
+      let a : weight t (λ _. true) x ≡ 1 = (let v : live t x ≡ true = f 0 x (omega arith) in rw v) in
+      let b = all_live xs (λ k d l. f (suc k) d (omega arith)) in
       omega (arith, sum_by-cons (weight t (λ _. true)) x xs)
 
   moved_test : (s a b : Bool) → ◌≡◌ {A = ℕ} (cond (not s) (cond (a && b) 1 0) 0) (cond (a && (b && not s)) 1 0)
@@ -87,27 +73,9 @@ module _ (t : ℕ) where
   pub same_cons : (x : Entry) (es fs : List Entry) → Same t es fs → Same t (x ∷ es) (x ∷ fs)
   same_cons x es fs h p = omega (arith, sum_by-cons (weight t p) x es, sum_by-cons (weight t p) x fs, h p)
 
--- what stands before the place of an entry that goes
-front_swapped : (es : List Entry) (i k : ℕ) (r d : Entry) → i < length es → k < i → get_or (swap_remove es i r) k d ≡ get_or es k d
-front_swapped es i k r d w l =
-    get_or-take (length es - 1) (set es i (get_or es (length es - 1) r)) k d (omega arith)
-    ∙ get_or-set_other es i k (get_or es (length es - 1) r) d (λ z. omega arith)
-
--- a turn of a sweep at the clock t that takes out x, which stands at i
-module _ (t i : ℕ) (es fs : List Entry) (x r : Entry) (is : fs ≡ swap_remove es i r) (w : i < length es) where
-  pub swept_same : (gs : List Entry) → x ≡ get_or es i x → x.deadline ≤ t → Same t es gs → Same t fs gs
-  swept_same gs at dead same =
-      let D : Entry → Type 0 = λ e. live t e ≡ false in
-      let gone : live t (get_or es i r) ≡ false = subst D (at ∙ get_or_default es i x r w) (le-ltb _ _ dead) in
-      let P : List Entry → Type 0 = λ xs. Same t xs gs in
-      subst P (sym is) (λ p. same_dead t es i r w gone p ∙ same p)
-
-  pub swept_front : (P : Entry → Type 0) → ((k : ℕ) (d : Entry) → k < i → P (get_or es k d)) → (k : ℕ) (d : Entry) → k < i → P (get_or fs k d)
-  swept_front P low k d l = subst P (sym (ap (λ xs. get_or xs k d) is ∙ front_swapped es i k r d w l)) (low k d l)
-
 -- entries whose deadlines are all past the clock
 pub live_past : (t n : ℕ) (es : List Entry) → t < n → NoneBefore n es → AllLive t es
-live_past t n es l waiting k w d = let b : n ≤ (get_or es k d).deadline = waiting k d w in lt-ltb _ _ (omega arith)
+live_past t n es l waiting k d w = let b : n ≤ (get_or es k d).deadline = waiting k d w in lt-ltb _ _ (omega arith)
 
 pub has_room : (t : ℕ) (es fs : List Entry) → length fs < 1024 → Same t fs es → RoomMade t es fs
 has_room t es fs few same = record {

@@ -1,5 +1,8 @@
 -- What an edit leaves of the invariants of a book.
-use Rattle.std.proofs.Common.{◌≡◌, ℕ, ◌+◌, ◌-◌, ◌<◌, ◌≤◌, ◌≢◌, List, length, Option, get_or, set, sym, ap, ◌∙◌, subst, inl, inr, arith, length-set, get_or-set_other, get_or-set_same}
+use Rattle.std.proofs.Common.{◌≡◌, ℕ, ◌+◌, ◌-◌, ◌<◌, ◌≤◌, ◌≢◌, List, [], ◌∷◌, ◌++◌, length, Option, get_or, set, sym, ap, ◌∙◌, subst, inl, inr, arith, length-set, get_or-set_other, get_or-set_same}
+use Rattle.std.specs.List.{swap_remove}
+use Rattle.std.proofs.lemmas.List.Elements.{All-weaker, All-set, All-push, All-take}
+use Rattle.std.proofs.lemmas.List.Quantifiers.{all_pairs_push}
 use Rattle.book.specs.declared.flow.Flow.{Flow}
 use Rattle.book.specs.declared.entry.Entry.{Entry}
 use Rattle.book.specs.declared.hash.Keys.{Keys}
@@ -24,90 +27,51 @@ module _ (es : List Entry) (i : ℕ) (x : Entry) (held : Held es x.flow i) where
   ]
 
   pub apart_set : Apart es → Apart (set es i x)
-  apart_set apart a b d c =
-      apart a b d (record { low = c.low; high = omega (arith, c.high, length-set es i x); same = sym (flow_set a d) ∙ c.same ∙ flow_set b d })
+  apart_set apart a b d lo hi same =
+      apart a b d lo (omega (arith, hi, length-set es i x)) (sym (flow_set a d) ∙ same ∙ flow_set b d)
 
   pub reached_set : (key : Keys) (ss : List (Option ℕ)) (n : ℕ) → Reached key ss es n → Reached key ss (set es i x) n
   reached_set key ss n r k d l = reached_at key ss es (set es i x) k d (flow_set k d) (r k d l)
 
--- a write of a deadline that is not before m
-pub none_before_set : (n m : ℕ) (es : List Entry) (i : ℕ) (x : Entry) → i < length es → NoneBefore n es → m ≤ n → m ≤ x.deadline → NoneBefore m (set es i x)
-none_before_set n m es i x w waiting low here k d l =
-    let long : length (set es i x) ≡ length es = length-set es i x in
-    let off : (k ≡ i → ⊥) → m ≤ (get_or (set es i x) k d).deadline = (λ ne.
-    let P : Entry → Type 0 = λ e. m ≤ e.deadline in
-    let old : n ≤ (get_or es k d).deadline = waiting k d (omega arith) in
-    subst P (sym (get_or-set_other es i k x d ne)) (omega arith)) in
-    elim (three k i) [
-      | inl h ↦ off (λ z. omega arith)
-      | inr r ↦ elim r [
-        | inl h ↦ (let P : Entry → Type 0 = λ e. m ≤ e.deadline in
-            let Q : ℕ → Type 0 = λ j. m ≤ (get_or (set es i x) j d).deadline in
-            subst Q (sym h) (subst P (sym (get_or-set_same es i x d w)) here))
-        | inr h ↦ off (λ z. omega arith)
-      ]
-    ]
+-- no deadline is before n, nor before an earlier m
+module _ (n m : ℕ) (es : List Entry) (x : Entry) (waiting : NoneBefore n es) (low : m ≤ n) (here : m ≤ x.deadline) where
+  earlier : NoneBefore m es
+  earlier = All-weaker (λ (e : Entry). n ≤ e.deadline) (λ (e : Entry). m ≤ e.deadline) (λ e h. omega arith) es waiting
 
--- one more, of a deadline that is not before m
-pub none_before_pushed : (n m : ℕ) (es fs : List Entry) (x : Entry) → NoneBefore n es → m ≤ n → m ≤ x.deadline → length fs ≡ length es + 1
-    → ((k : ℕ) (d : Entry) → k < length es → get_or fs k d ≡ get_or es k d) → ((d : Entry) → get_or fs (length es) d ≡ x) → NoneBefore m fs
-none_before_pushed n m es fs x waiting low here len old last k d l =
-    let P : Entry → Type 0 = λ e. m ≤ e.deadline in
-    elim (three k (length es)) [
-      | inl h ↦ (let b : n ≤ (get_or es k d).deadline = waiting k d h in subst P (sym (old k d h)) (omega arith))
-      | inr r ↦ elim r [
-        | inl h ↦ (let Q : ℕ → Type 0 = λ j. m ≤ (get_or fs j d).deadline in subst Q (sym h) (subst P (sym (last d)) here))
-        | inr h ↦ absurd (omega arith)
-      ]
-    ]
+  pub none_before_set : (i : ℕ) → NoneBefore m (set es i x)
+  none_before_set i = All-set (λ (e : Entry). m ≤ e.deadline) es i x here earlier
+
+  pub none_before_pushed : NoneBefore m (es ++ x ∷ [])
+  none_before_pushed = All-push (λ (e : Entry). m ≤ e.deadline) es x earlier here
 
 -- one more of a new flow
-pub apart_pushed : (es fs : List Entry) (x : Entry) → Apart es → Absent es x.flow → length fs ≡ length es + 1
-    → ((k : ℕ) (d : Entry) → k < length es → get_or fs k d ≡ get_or es k d) → ((d : Entry) → get_or fs (length es) d ≡ x) → Apart fs
-apart_pushed es fs x apart new len old last a b d c =
-    let F : Entry → Flow = λ e. e.flow in
-    let low : a < length es = omega (arith, c.low, c.high) in
-    elim (three b (length es)) [
-      | inl h ↦ apart a b d (record { low = c.low; high = h; same = ap F (sym (old a d low)) ∙ c.same ∙ ap F (old b d h) })
-      | inr r ↦ elim r [
-        | inl h ↦ new a d low (ap F (sym (old a d low)) ∙ c.same ∙ ap (λ j. flow_at fs j d) h ∙ ap F (last d))
-        | inr h ↦ absurd (omega (arith, c.high))
-      ]
-    ]
+pub apart_pushed : (es : List Entry) (x : Entry) → Apart es → Absent es x.flow → Apart (es ++ x ∷ [])
+apart_pushed es x apart new = all_pairs_push (λ (a b : Entry). a.flow ≢ b.flow) es x apart new
 
 -- one less, and the last in its place
+pub none_before_swapped : (n : ℕ) (es : List Entry) (i : ℕ) (r : Entry) → i < length es → NoneBefore n es → NoneBefore n (swap_remove es i r)
+none_before_swapped n es i r l waiting =
+    let last : Entry = get_or es (length es - 1) r in
+    All-take (λ (e : Entry). n ≤ e.deadline) (length es - 1) (set es i last) (All-set (λ (e : Entry). n ≤ e.deadline) es i last (waiting (length es - 1) r (omega arith)) waiting)
+
 module _ (es fs : List Entry) (i : ℕ) (apart : Apart es) (len : length fs + 1 ≡ length es)
     (moved : (d : Entry) → i + 1 < length es → get_or fs i d ≡ get_or es (length es - 1) d)
     (kept : (k : ℕ) (d : Entry) → (k ≡ i → ⊥) → k + 1 < length es → get_or fs k d ≡ get_or es k d) where
   pub apart_swapped : Apart fs
-  apart_swapped a b d c =
-      let hi : b < length fs = c.high in
-      let lo : a < b = c.low in
+  apart_swapped a b d lo hi same =
       let at : (k : ℕ) → k < length fs → (k ≡ i → ⊥) → flow_at fs k d ≡ flow_at es k d = (λ k l n. ap (λ (e : Entry). e.flow) (kept k d n (omega arith))) in
       let end : (k : ℕ) → k < length fs → k ≡ i → flow_at fs k d ≡ flow_at es (length es - 1) d = (λ k l e. ap (λ j. flow_at fs j d) e ∙ ap (λ (x : Entry). x.flow) (moved d (omega arith))) in
+      let others : (a ≡ i → ⊥) → (b ≡ i → ⊥) → ⊥ = (λ na nb. apart a b d lo (omega arith) (sym (at a (omega arith) na) ∙ same ∙ at b hi nb)) in
       elim (three a i) [
         | inl h ↦ elim (three b i) [
-          | inl g ↦ apart a b d (record { low = lo; high = omega arith; same = sym (at a (omega arith) (λ z. omega arith)) ∙ c.same ∙ at b hi (λ z. omega arith) })
+          | inl g ↦ others (λ z. omega arith) (λ z. omega arith)
           | inr s ↦ elim s [
-            | inl g ↦ apart a (length es - 1) d (record { low = omega arith; high = omega arith; same = sym (at a (omega arith) (λ z. omega arith)) ∙ c.same ∙ end b hi g })
-            | inr g ↦ apart a b d (record { low = lo; high = omega arith; same = sym (at a (omega arith) (λ z. omega arith)) ∙ c.same ∙ at b hi (λ z. omega arith) })
+            | inl g ↦ apart a (length es - 1) d (omega arith) (omega arith) (sym (at a (omega arith) (λ z. omega arith)) ∙ same ∙ end b hi g)
+            | inr g ↦ others (λ z. omega arith) (λ z. omega arith)
           ]
         ]
         | inr r ↦ elim r [
-          | inl h ↦ apart b (length es - 1) d (record { low = omega arith; high = omega arith; same = sym (at b hi (λ z. omega arith)) ∙ sym c.same ∙ end a (omega arith) h })
-          | inr h ↦ apart a b d (record { low = lo; high = omega arith; same = sym (at a (omega arith) (λ z. omega arith)) ∙ c.same ∙ at b hi (λ z. omega arith) })
-        ]
-      ]
-
-  pub none_before_swapped : (n : ℕ) → NoneBefore n es → NoneBefore n fs
-  none_before_swapped n waiting k d l =
-      let P : Entry → Type 0 = λ e. n ≤ e.deadline in
-      let off : (k ≡ i → ⊥) → n ≤ (get_or fs k d).deadline = (λ ne. subst P (sym (kept k d ne (omega arith))) (waiting k d (omega arith))) in
-      elim (three k i) [
-        | inl h ↦ off (λ z. omega arith)
-        | inr r ↦ elim r [
-          | inl h ↦ (let Q : ℕ → Type 0 = λ j. n ≤ (get_or fs j d).deadline in
-              subst Q (sym h) (subst P (sym (moved d (omega arith))) (waiting (length es - 1) d (omega arith))))
-          | inr h ↦ off (λ z. omega arith)
+          | inl h ↦ apart b (length es - 1) d (omega arith) (omega arith) (sym (at b hi (λ z. omega arith)) ∙ sym same ∙ end a (omega arith) h)
+          | inr h ↦ others (λ z. omega arith) (λ z. omega arith)
         ]
       ]

@@ -14,10 +14,10 @@ module _ (es : List Entry) (f : Flow) (i : ℕ) where
   -- where f stands at i, no other entry is of f
   pub off_held : Apart es → Held es f i → (k : ℕ) (d : Entry) → k < length es → (k ≡ i → ⊥) → same_flow (get_or es k d).flow f ≡ false
   off_held apart held k d l ne = apart_flows _ _ (λ z. elim (three k i) [
-    | inl h ↦ apart k i d (record { low = h; high = held.0; same = z ∙ sym (held.1 d) })
+    | inl h ↦ apart k i d h held.0 (z ∙ sym (held.1 d))
     | inr r ↦ elim r [
       | inl h ↦ ne h
-      | inr h ↦ apart i k d (record { low = h; high = l; same = held.1 d ∙ sym z })
+      | inr h ↦ apart i k d h l (held.1 d ∙ sym z)
     ]
   ])
 

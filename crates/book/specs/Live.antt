@@ -1,5 +1,5 @@
 -- What a book holds: its live entries, in any order.
-use Rattle.std.specs.Prelude.{◌≡◌, ℕ, ◌<◌, ◌≤◌, Bool, true, cond, not, ◌&&◌, List, [], ◌∷◌, length, get_or, Some, None, count_by, filter, Option, ◌==◌, nat_lt, slice_index_or}
+use Rattle.std.specs.Prelude.{◌≡◌, ℕ, ◌<◌, ◌≤◌, Bool, true, cond, not, ◌&&◌, List, [], ◌∷◌, length, All, Some, None, count_by, filter, Option, ◌==◌, nat_lt}
 use Rattle.book.specs.declared.flow.End.{End}
 use Rattle.book.specs.declared.flow.Flow.{Flow}
 use Rattle.book.specs.declared.entry.Entry.{Entry}
@@ -45,11 +45,11 @@ abbrev pub without : Flow → List Entry → List Entry
 without f es = filter (λ e. not (same_flow e.flow f)) es
 
 abbrev pub AllLive : ℕ → List Entry → Type 0
-AllLive t es = (k : ℕ) → k < length es → (d : Entry) → live t (slice_index_or es k d) ≡ true
+AllLive t es = All (λ e. live t e ≡ true) es
 
 -- no deadline is before n
 abbrev pub NoneBefore : ℕ → List Entry → Type 0
-NoneBefore n es = (k : ℕ) (d : Entry) → k < length es → n ≤ (get_or es k d).deadline
+NoneBefore n es = All (λ e. n ≤ e.deadline) es
 
 -- how many entries are live
 abbrev pub live_total : ℕ → List Entry → ℕ

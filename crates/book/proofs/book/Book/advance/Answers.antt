@@ -47,7 +47,7 @@ invariant_of-self c =
       few = now.few;
       reached = reached_set es i x stays now.index.keys now.index.slots (vec_len now.entries) now.reached;
       apart = apart_set es i x stays now.apart;
-      waiting = none_before_set now.earliest c.min-self.result es i x held.0 now.waiting (omega (arith, c.min-self.ensures)) low;
+      waiting = none_before_set now.earliest c.min-self.result es x now.waiting (omega (arith, c.min-self.ensures)) low i;
     }
 
 pub returns-in_err-i : goal.returns-in_err-i

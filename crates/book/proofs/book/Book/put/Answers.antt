@@ -17,7 +17,7 @@ invariant_of-self c =
       few = now.few;
       reached = reached_set es i x held now.index.keys now.index.slots (vec_len now.entries) now.reached;
       apart = apart_set es i x held now.apart;
-      waiting = none_before_set now.earliest c.min-self.result es i x held.0 now.waiting (omega (arith, c.min-self.ensures)) (omega (arith, c.min-self.ensures));
+      waiting = none_before_set now.earliest c.min-self.result es x now.waiting (omega (arith, c.min-self.ensures)) (omega (arith, c.min-self.ensures)) i;
     }
 
 pub returns-in-Some : goal.returns-in-Some

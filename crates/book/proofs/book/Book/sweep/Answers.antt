@@ -1,21 +1,39 @@
-use Rattle.std.proofs.Common.{◌<◌, ◌≤◌, length, vec_items, arith}
-use Rattle.book.proofs.Edits.{swept_same, swept_front}
+use Rattle.std.proofs.Common.{◌≡◌, ◌≢◌, List, length, vec_items, filter, sym, subst, arith, rules}
+use Rattle.std.proofs.lemmas.Fn.{filter_same}
+use Rattle.std.proofs.lemmas.List.Elements.{filter_passes}
+use Rattle.std.proofs.lemmas.List.Kept.{AllPairs-filter}
+use Rattle.book.specs.declared.entry.Entry.{Entry}
+use Rattle.book.specs.Index.{Reached}
+use Rattle.book.specs.Places.{Apart}
+use Rattle.book.specs.Live.{live, Same, AllLive, NoneBefore}
+use Rattle.book.proofs.Models.{same_live}
 use Rattle.book.proofs.book.Book.sweep.Goals as goal
 
-pub loop-i-preserved-then-deadline-from : goal.loop-i-preserved-then-deadline-from
-loop-i-preserved-then-deadline-from c =
+pub invariant_of-self : goal.invariant_of-self
+invariant_of-self c =
+    let now = c.args.self.now in
     let t = c.args.clock in
-    let i = c.loop-i.i in
-    let v = c.loop-i.self.entries in
-    let es = vec_items v in
-    let fs = vec_items c.take_out.new.self.entries in
-    let x = c.index.result.now in
-    let r = c.take_out.result in
-    let is = c.take_out.ensures.later in
-    let w : i < length es = omega (arith, v.ok.0, c.len.ensures, c.loop-i-test.true) in
-    let inv = c.loop-i.invariant in (
-      swept_same t i es fs x r is w (vec_items c.args.self.now.entries) c.index.ensures (omega (arith, c.if-deadline-from.true, c.from.ensures)) inv.0,
-      omega (arith, c.take_out.ensures.len, c.len.ensures, c.loop-i-test.true),
-      swept_front t i es fs x r is w (λ e. t < e.deadline) inv.2,
-      swept_front t i es fs x r is w (λ e. c.loop-i.earliest ≤ e.deadline) inv.3,
-    )
+    let es = vec_items now.entries in
+    let fs = vec_items c.retain.new.self in
+    let is : fs ≡ filter (live t) es = filter_same _ (live t) _ (λ x b f k. search rules) es fs c.retain.ensures.filtered in
+    let A : List Entry → Type 0 = λ xs. Apart xs in
+    let N : List Entry → Type 0 = λ xs. NoneBefore c.first_deadline-self.result xs in
+    let P : List Entry → Type 0 = λ xs. Reached c.rebuild.new.self.keys c.rebuild.new.self.slots xs (length xs) in
+    let all = subst P c.as_slice-2.ensures.value c.rebuild.ensures.reached in
+    record {
+      room = omega (arith, c.retain.ensures.capacity, now.room);
+      few = omega (arith, c.retain.ensures.bound, now.few);
+      reached = (λ k d l. all k d (omega (arith, l)));
+      apart = subst A (sym is) (AllPairs-filter (λ x y. x.flow ≢ y.flow) (live t) es now.apart);
+      waiting = subst N c.as_slice.ensures.value c.first_deadline-self.ensures.result;
+    }
+
+pub returns : goal.returns
+returns c =
+    let t = c.args.clock in
+    let es = vec_items c.args.self.now.entries in
+    let fs = vec_items c.retain.new.self in
+    let is : fs ≡ filter (live t) es = filter_same _ (live t) _ (λ x b f k. search rules) es fs c.retain.ensures.filtered in
+    let S : List Entry → Type 0 = λ xs. Same t xs es in
+    let L : List Entry → Type 0 = λ xs. AllLive t xs in
+    record { later = subst S (sym is) (λ p. sym (same_live t es p)); live = subst L (sym is) (filter_passes (live t) es) }
