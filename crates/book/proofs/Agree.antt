@@ -10,32 +10,33 @@ use Rattle.book.specs.declared.entry.State.TheVariants.{Opened, Answered, Closin
 use Rattle.book.specs.Places.{Apart}
 use Rattle.book.specs.Values.{protocol_value, state_value}
 use Rattle.book.proofs.Flows.{protocol_equal, same_equal, apart_flows}
-use Rattle.book.specs.Live.{first, same_flow, live, find, live_count, Same}
+use Rattle.std.specs.List.{find}
+use Rattle.book.specs.Live.{same_flow, live, live_entry, live_count, Same}
 use Rattle.book.proofs.Weigh.{sum_agree, first_none}
 
 module _ {X : Type 0} (q : X → Bool) where
   count_step : (xs : List X) (x : X) (b : Bool) → q x ≡ b → count_by q (x ∷ xs) ≡ cond b 1 0 + count_by q xs
   count_step xs x b e = sum_by-cons (λ y. cond (q y) 1 0) x xs ∙ ap (λ c. cond c 1 0 + count_by q xs) e
 
-  none_by : (xs : List X) (x : X) (b : Bool) → q x ≡ b → count_by q (x ∷ xs) ≡ 0 → (count_by q xs ≡ 0 → first q xs ≡ None) → cond b (Some x) (first q xs) ≡ None
+  none_by : (xs : List X) (x : X) (b : Bool) → q x ≡ b → count_by q (x ∷ xs) ≡ 0 → (count_by q xs ≡ 0 → find q xs ≡ None) → cond b (Some x) (find q xs) ≡ None
   none_by xs x true e h ih = absurd (omega (arith, count_step xs x true e))
   none_by xs x false e h ih = ih (omega (arith, count_step xs x false e))
 
-  pub none_from_zero : (xs : List X) → count_by q xs ≡ 0 → first q xs ≡ None
+  pub none_from_zero : (xs : List X) → count_by q xs ≡ 0 → find q xs ≡ None
   none_from_zero [] h = refl
   none_from_zero (x ∷ xs) h = none_by xs x (q x) refl h (none_from_zero xs)
 
-  zero_by : (xs : List X) (x : X) (b : Bool) → q x ≡ b → cond b (Some x) (first q xs) ≡ None → (first q xs ≡ None → count_by q xs ≡ 0) → count_by q (x ∷ xs) ≡ 0
-  zero_by xs x true e h ih = absurd (let z : ◌≡◌ {A = ℕ} 0 1 = cc in omega arith)
+  zero_by : (xs : List X) (x : X) (b : Bool) → q x ≡ b → cond b (Some x) (find q xs) ≡ None → (find q xs ≡ None → count_by q xs ≡ 0) → count_by q (x ∷ xs) ≡ 0
+  zero_by xs x true e h ih = absurd cc
   zero_by xs x false e h ih = omega (arith, count_step xs x false e, ih h)
 
-  pub zero_from_none : (xs : List X) → first q xs ≡ None → count_by q xs ≡ 0
+  pub zero_from_none : (xs : List X) → find q xs ≡ None → count_by q xs ≡ 0
   zero_from_none [] h = refl
   zero_from_none (x ∷ xs) h = zero_by xs x (q x) refl h (zero_from_none xs)
 
   -- what is found passes, and counts under any test that it passes
-  found_by : (r : X → Bool) (x y : X) (xs : List X) (b : Bool) → q y ≡ b → cond b (Some y) (first q xs) ≡ Some x → r x ≡ true
-      → (first q xs ≡ Some x → 1 ≤ count_by (λ e. q e && r e) xs) → 1 ≤ count_by (λ e. q e && r e) (y ∷ xs)
+  found_by : (r : X → Bool) (x y : X) (xs : List X) (b : Bool) → q y ≡ b → cond b (Some y) (find q xs) ≡ Some x → r x ≡ true
+      → (find q xs ≡ Some x → 1 ≤ count_by (λ e. q e && r e) xs) → 1 ≤ count_by (λ e. q e && r e) (y ∷ xs)
   found_by r x y xs true e h k ih =
       let s : y ≡ x = cc in
       let w : ◌≡◌ {A = ℕ} (cond (q y && r y) 1 0) 1 = rw (e, s, k) in
@@ -43,8 +44,8 @@ module _ {X : Type 0} (q : X → Bool) where
   found_by r x y xs false e h k ih =
       let i = ih h in omega (arith, sum_by-cons (λ e. cond (q e && r e) 1 0) y xs, i)
 
-  pub counts_found : (r : X → Bool) (x : X) (xs : List X) → first q xs ≡ Some x → r x ≡ true → 1 ≤ count_by (λ e. q e && r e) xs
-  counts_found r x [] h k = absurd (let z : ◌≡◌ {A = ℕ} 0 1 = cc in omega arith)
+  pub counts_found : (r : X → Bool) (x : X) (xs : List X) → find q xs ≡ Some x → r x ≡ true → 1 ≤ count_by (λ e. q e && r e) xs
+  counts_found r x [] h k = absurd cc
   counts_found r x (y ∷ xs) h k = found_by r x y xs (q y) refl h k (λ g. counts_found r x xs g k)
 
   halves : (a b : Bool) → ◌≡◌ {A = ℕ} (cond a 1 0) (cond (a && b) 1 0 + cond (a && not b) 1 0)
@@ -68,11 +69,11 @@ module _ {X : Type 0} (q : X → Bool) where
         with_true true = refl
         with_true false = refl
 
-    none_alike : first q xs ≡ None → first q ys ≡ None
+    none_alike : find q xs ≡ None → find q ys ≡ None
     none_alike h = none_from_zero ys (omega (arith, anyway xs, anyway ys, agree (λ _. true), zero_from_none xs h))
 
     -- what ys answers, where xs answers x
-    alike_by : (x : X) → first q xs ≡ Some x → (o : Option X) → first q ys ≡ o → o ≡ Some x
+    alike_by : (x : X) → find q xs ≡ Some x → (o : Option X) → find q ys ≡ o → o ≡ Some x
     alike_by x h None e =
         absurd (omega (arith, counts_found (λ _. true) x xs h refl, agree (λ _. true), anyway ys, zero_from_none ys e))
     alike_by x h (Some y) e = same (eq y x) refl
@@ -85,12 +86,12 @@ module _ {X : Type 0} (q : X → Bool) where
             let b = counts_found (λ z. not (eq z x)) y ys e n in
             absurd (omega (arith, a, b, agree (λ z. not (eq z x)), count_parted (λ z. eq z x) xs, once))
 
-    pub first_alike : first q ys ≡ first q xs
-    first_alike = by (first q xs) refl
+    pub first_alike : find q ys ≡ find q xs
+    first_alike = by (find q xs) refl
       where
-        by : (o : Option X) → first q xs ≡ o → first q ys ≡ first q xs
+        by : (o : Option X) → find q xs ≡ o → find q ys ≡ find q xs
         by None h = none_alike h ∙ sym h
-        by (Some x) h = alike_by x h (first q ys) refl ∙ sym h
+        by (Some x) h = alike_by x h (find q ys) refl ∙ sym h
 
 -- equality of entries, as a test
 abbrev same_entry : Entry → Entry → Bool
@@ -135,7 +136,7 @@ turned true false b = refl
 turned false true b = refl
 turned false false b = refl
 
-pub same_find : (t : ℕ) (f : Flow) (es fs : List Entry) → Same t es fs → count_by (λ e. same_flow e.flow f && live t e) es ≤ 1 → find t f fs ≡ find t f es
+pub same_find : (t : ℕ) (f : Flow) (es fs : List Entry) → Same t es fs → count_by (λ e. same_flow e.flow f && live t e) es ≤ 1 → live_entry t f fs ≡ live_entry t f es
 same_find t f es fs h once =
     first_alike (λ e. same_flow e.flow f && live t e) same_entry entry_self entry_true es fs (λ p. turn es p ∙ h (λ e. same_flow e.flow f && p e) ∙ sym (turn fs p)) once
   where

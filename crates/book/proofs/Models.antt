@@ -17,7 +17,7 @@ use Rattle.book.proofs.Agree.{same_find, once}
 
 lasting : (a b c : Bool) → (b ≡ true → a ≡ true) → ◌≡◌ {A = ℕ} (cond (b && c) 1 0) (cond (a && (b && c)) 1 0)
 lasting true b c h = refl
-lasting false true c h = absurd (let e : false ≡ true = h refl in let z : ◌≡◌ {A = ℕ} 0 1 = cc in omega arith)
+lasting false true c h = absurd (let e : false ≡ true = h refl in cc)
 lasting false false c h = refl
 
 live_before : (t u : ℕ) (e : Entry) → t ≤ u → live u e ≡ true → live t e ≡ true

@@ -5,7 +5,7 @@ use Rattle.std.proofs.lemmas.List.{get_or_default}
 use Rattle.book.specs.declared.flow.Flow.{Flow}
 use Rattle.book.specs.declared.entry.Entry.{Entry}
 use Rattle.book.specs.Places.{Apart, Held, Absent}
-use Rattle.book.specs.Live.{same_flow, live, find}
+use Rattle.book.specs.Live.{same_flow, live, live_entry}
 use Rattle.book.proofs.Walk.{three}
 use Rattle.book.proofs.Flows.{same_from, apart_flows}
 use Rattle.book.proofs.Weigh.{first_none, first_at}
@@ -29,12 +29,12 @@ module _ (es : List Entry) (f : Flow) (i : ℕ) where
   here_held held d = same_from _ _ (held.1 d)
 
   module _ (t : ℕ) where
-    found_live : Apart es → Held es f i → (d : Entry) → live t (get_or es i d) ≡ true → find t f es ≡ Some (get_or es i d)
+    found_live : Apart es → Held es f i → (d : Entry) → live t (get_or es i d) ≡ true → live_entry t f es ≡ Some (get_or es i d)
     found_live asc held d v =
         first_at (λ e. same_flow e.flow f && live t e) es i d held.0 (rw (here_held held d) v)
         (λ k h. let l : k < length es = omega (arith, held.0) in rw (off_held asc held k d l (λ z. omega arith)))
 
-    found_dead : Apart es → Held es f i → ((d : Entry) → live t (get_or es i d) ≡ false) → find t f es ≡ None
+    found_dead : Apart es → Held es f i → ((d : Entry) → live t (get_or es i d) ≡ false) → live_entry t f es ≡ None
     found_dead asc held v =
         first_none (λ e. same_flow e.flow f && live t e) es (λ k d l. elim (three k i) [
           | inl h ↦ rw (off_held asc held k d l (λ z. omega arith))
@@ -46,12 +46,12 @@ module _ (es : List Entry) (f : Flow) (i : ℕ) where
         ])
 
     -- the entry at the flow's place, where it is live
-    pub found_held : Apart es → Held es f i → (x : Entry) → x ≡ get_or es i x → find t f es ≡ then_some (live t x) x
+    pub found_held : Apart es → Held es f i → (x : Entry) → x ≡ get_or es i x → live_entry t f es ≡ then_some (live t x) x
     found_held asc held x at = by (live t x) refl
       where
-        by : (b : Bool) → live t x ≡ b → find t f es ≡ then_some b x
+        by : (b : Bool) → live t x ≡ b → live_entry t f es ≡ then_some b x
         by true v = let w : live t (get_or es i x) ≡ true = (let P : Entry → Type 0 = λ e. live t e ≡ true in subst P at v) in found_live asc held x w ∙ ap Some (sym at)
         by false v = found_dead asc held (λ d. let P : Entry → Type 0 = λ e. live t e ≡ false in subst P (at ∙ get_or_default es i x d held.0) v)
 
-    pub found_none : Absent es f → find t f es ≡ None
+    pub found_none : Absent es f → live_entry t f es ≡ None
     found_none b = first_none (λ e. same_flow e.flow f && live t e) es (λ k d l. rw (off_absent b k d l))

@@ -1,5 +1,5 @@
 -- What a book holds: its live entries, in any order.
-use Rattle.std.specs.Prelude.{◌≡◌, ℕ, ◌<◌, ◌≤◌, Bool, true, cond, not, ◌&&◌, List, [], ◌∷◌, length, All, Some, None, count_by, filter, Option, ◌==◌, nat_lt}
+use Rattle.std.specs.Prelude.{◌≡◌, ℕ, ◌<◌, ◌≤◌, Bool, true, cond, not, ◌&&◌, List, [], ◌∷◌, length, All, Some, None, count_by, filter, find, Option, ◌==◌, nat_lt}
 use Rattle.book.specs.declared.flow.End.{End}
 use Rattle.book.specs.declared.flow.Flow.{Flow}
 use Rattle.book.specs.declared.entry.Entry.{Entry}
@@ -19,14 +19,9 @@ same_end a b = a.address.bits == b.address.bits && a.port == b.port
 abbrev pub same_flow : Flow → Flow → Bool
 same_flow f g = protocol_value f.protocol == protocol_value g.protocol && (same_end f.opener g.opener && same_end f.other g.other)
 
--- the first element that passes a test
-abbrev pub first : {X : Type 0} → (X → Bool) → List X → Option X
-first p [] = None
-first p (x ∷ xs) = cond (p x) (Some x) (first p xs)
-
 -- the live entry of a flow
-abbrev pub find : ℕ → Flow → List Entry → Option Entry
-find t f es = first (λ e. same_flow e.flow f && live t e) es
+abbrev pub live_entry : ℕ → Flow → List Entry → Option Entry
+live_entry t f es = find (λ e. same_flow e.flow f && live t e) es
 
 -- how many live entries pass a test
 abbrev pub live_count : ℕ → (Entry → Bool) → List Entry → ℕ

@@ -18,7 +18,7 @@ use Rattle.book.specs.declared.fit.Fit.{Fit}
 use Rattle.book.specs.declared.answer.Answer.{Answer}
 use Rattle.book.specs.declared.answer.Answer.TheVariants as answer
 use Rattle.book.specs.Steps.{lifetime_of, label_of, erases}
-use Rattle.book.specs.Live.{find, Same, live_total, without, after_fit}
+use Rattle.book.specs.Live.{live_entry, Same, live_total, without, after_fit}
 
 -- an unconnected packet fits no entry and opens none, whatever stands here
 abbrev pub protocol_of : Kind → Protocol
@@ -71,7 +71,7 @@ from_side side None = None
 
 -- the live entry that a packet fits from the side
 abbrev pub fit_from : ℕ → Passage → List Entry → Side → Option Fit
-fit_from t p es side = cond (fits_from side p.kind) (from_side side (find t (flow_from p side) es)) None
+fit_from t p es side = cond (fits_from side p.kind) (from_side side (live_entry t (flow_from p side) es)) None
 
 abbrev pub or_fit : Option Fit → Option Fit → Option Fit
 or_fit (Some x) o = Some x

@@ -3,7 +3,7 @@ ghost use Rattle.std.specs.Prelude.{◌≡◌, ℕ, ◌+◌, ◌<◌, [], ◌∷
 ghost use Rattle.std.specs.List.{swap_remove};
 ghost use Rattle.book.specs.Books.{stored};
 ghost use Rattle.book.specs.Places.{Absent};
-ghost use Rattle.book.specs.Live.{Same, without, find, Fitted};
+ghost use Rattle.book.specs.Live.{Same, without, live_entry, Fitted};
 ghost use Rattle.book.specs.Passages.{flow_from, flags_of};
 
 use crate::advance::Outcome;
@@ -53,7 +53,7 @@ impl Book {
 
     // Takes the step of a packet on the entry that it fits from the side, if such an entry is live.
     pub(crate) fn advance(&mut self, passage: &Passage, side: Side, clock: u32) -> Option<Outcome>
-        ensures result { Fitted (flow_from passage.now side) side (flags_of passage.now.kind) clock (stored self.old) (stored self.new) result (find clock (flow_from passage.now side) (stored self.old)) }
+        ensures result { Fitted (flow_from passage.now side) side (flags_of passage.now.kind) clock (stored self.old) (stored self.new) result (live_entry clock (flow_from passage.now side) (stored self.old)) }
     {
         let i = self.place(passage.flow(side))?;
         if !self.entries[i].is_live(clock) {

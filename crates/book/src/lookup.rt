@@ -1,7 +1,7 @@
 // Looking up a connection by its flow.
 ghost use Rattle.std.specs.Prelude.{◌≡◌, MatchOption};
 ghost use Rattle.book.specs.Books.{stored};
-ghost use Rattle.book.specs.Live.{find};
+ghost use Rattle.book.specs.Live.{live_entry};
 ghost use Rattle.book.specs.Places.{Held, Absent};
 
 use crate::book::Book;
@@ -18,7 +18,7 @@ impl Book {
 
     // The live entry of the flow.
     pub(crate) fn find(&self, flow: Flow, clock: u32) -> Option<Entry>
-        ensures result { result ≡ find clock flow (stored self.now) }
+        ensures result { result ≡ live_entry clock flow (stored self.now) }
     {
         let i = self.place(flow)?;
         let entry = self.entries[i];

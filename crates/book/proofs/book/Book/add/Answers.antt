@@ -1,13 +1,11 @@
 use Rattle.std.proofs.Common.{◌≡◌, ◌<◌, Bool, true, cond, List, [], ◌∷◌, ◌++◌, length, vec_items, vec_len, sym, ◌∙◌, subst, arith}
+use Rattle.std.proofs.lemmas.Bool.{cond-true}
 use Rattle.book.specs.declared.entry.Entry.{Entry}
 use Rattle.book.specs.Index.{Reached}
 use Rattle.book.specs.Places.{Apart}
 use Rattle.book.specs.Live.{NoneBefore}
 use Rattle.book.proofs.Orders.{apart_pushed, none_before_pushed}
 use Rattle.book.proofs.book.Book.add.Goals as goal
-
-when_true : {X : Type 0} (b : Bool) (x y : X) → b ≡ true → cond b x y ≡ x
-when_true b x y e = rw e
 
 pub invariant_of-self : goal.invariant_of-self
 invariant_of-self c =
@@ -16,8 +14,8 @@ invariant_of-self c =
     let fs = vec_items c.push.new.self in
     let more = c.push.ensures in
     let good = more.succeeds (omega (arith, c.requires.room, now.room)) in
-    let len = more.len ∙ when_true _ _ _ good in
-    let is : fs ≡ es ++ c.args.entry ∷ [] = more.items ∙ when_true _ _ _ good in
+    let len = more.len ∙ cond-true _ _ _ good in
+    let is : fs ≡ es ++ c.args.entry ∷ [] = more.items ∙ cond-true _ _ _ good in
     let A : List Entry → Type 0 = λ xs. Apart xs in
     let N : List Entry → Type 0 = λ xs. NoneBefore c.min-self.result xs in
     let P : List Entry → Type 0 = λ xs. Reached c.note.new.self.keys c.note.new.self.slots xs (length xs) in

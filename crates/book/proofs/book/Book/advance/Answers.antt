@@ -1,5 +1,7 @@
 use Rattle.std.proofs.Common.{◌≡◌, ℕ, ◌<◌, ◌≤◌, Bool, true, false, cond, List, length, get_or, set, Some, vec_items, vec_len, Option, sym, refl, ap, ◌∙◌, subst, arith, get_or-set_same}
 use Rattle.std.specs.List.{swap_remove}
+use Rattle.std.proofs.lemmas.Bool.{cond-true, cond-false}
+use Rattle.std.proofs.lemmas.List.{get_or_default}
 use Rattle.book.specs.declared.entry.Entry.{Entry}
 use Rattle.book.specs.declared.advance.Outcome.{Outcome}
 use Rattle.book.specs.Steps.{erases, advanced}
@@ -8,21 +10,15 @@ use Rattle.book.specs.Passages.{flow_from, flags_of}
 use Rattle.book.specs.declared.flow.Flow.{Flow}
 use Rattle.book.specs.declared.entry.Side.{Side}
 use Rattle.book.proofs.Orders.{apart_set, reached_set, none_before_set}
-use Rattle.book.specs.Live.{live, find, Fitted}
-use Rattle.book.proofs.Fits.{renewed_keeps, erased_ends, read_any, fit_none, fit_dead, fit_renewed, fit_erased}
+use Rattle.book.specs.Live.{live, live_entry, Fitted}
+use Rattle.book.proofs.Fits.{renewed_keeps, erased_ends, fit_none, fit_dead, fit_renewed, fit_erased}
 use Rattle.book.proofs.book.Book.advance.Goals as goal
-
-when_true : {X : Type 0} (b : Bool) (x y : X) → b ≡ true → cond b x y ≡ x
-when_true b x y e = rw e
-
-when_false : {X : Type 0} (b : Bool) (x y : X) → b ≡ false → cond b x y ≡ y
-when_false b x y e = rw e
 
 -- two reads of one entry are live alike
 live_read : (es : List Entry) (i : ℕ) (x y : Entry) (t : ℕ) → i < length es → x ≡ get_or es i x → y ≡ get_or es i y → live t x ≡ true → live t y ≡ true
 live_read es i x y t l h k v =
     let P : Entry → Type 0 = λ e. live t e ≡ true in
-    subst P (read_any es i x y l h ∙ sym k) v
+    subst P (h ∙ get_or_default es i x y l ∙ sym k) v
 
 flow_stays : (b : Bool) (y : Entry) (side : Side) (flags : Option ℕ) (t : ℕ) → (cond b y (advanced y side flags t)).flow ≡ y.flow
 flow_stays true y side flags t = refl
@@ -56,7 +52,7 @@ returns-in_err-i c =
     let f = flow_from c.args.passage.now c.args.side in
     let flags = flags_of c.args.passage.now.kind in
     let A : Flow → Type 0 = λ g. Absent es g in
-    let P : Option Outcome → Type 0 = λ r. Fitted f c.args.side flags c.args.clock es es r (find c.args.clock f es) in
+    let P : Option Outcome → Type 0 = λ r. Fitted f c.args.side flags c.args.clock es es r (live_entry c.args.clock f es) in
     record { result = subst P (sym c.from_residual.ensures) (fit_none f c.args.side flags c.args.clock es 0 (subst A c.flow.ensures.result c.in_err-i.ensures.result)) }
 
 pub returns-then-not-is_live : goal.returns-then-not-is_live
@@ -83,11 +79,11 @@ returns-in-Renewed c =
     let E : Option ℕ → Type 0 = λ g. erases g ≡ false in
     let Z : Option ℕ → Type 0 = λ g. c.advance-outcome.new.self ≡ advanced y c.args.side g t in
     let v = live_read es i c.index.result.now y t held.0 c.index.ensures c.index_mut.ensures.value (sym c.if-not-is_live.ensures.result) in
-    let P : Outcome → Type 0 = λ o. Fitted f c.args.side flags t es (set es i c.advance-outcome.new.self) (Some o) (find t f es) in
+    let P : Outcome → Type 0 = λ o. Fitted f c.args.side flags t es (set es i c.advance-outcome.new.self) (Some o) (live_entry t f es) in
     record {
       result = subst P (sym c.in-Renewed.is)
           (fit_renewed f c.args.side flags t es i c.args.self.now.apart held y c.index_mut.ensures.value c.advance-outcome.new.self v
-          (subst E c.flags.ensures.result stays) (subst Z c.flags.ensures.result (c.in-Renewed.ensures.later ∙ when_false _ _ _ stays)));
+          (subst E c.flags.ensures.result stays) (subst Z c.flags.ensures.result (c.in-Renewed.ensures.later ∙ cond-false _ _ _ stays)));
     }
 
 pub returns-in-Erased : goal.returns-in-Erased
@@ -104,10 +100,10 @@ returns-in-Erased c =
     let ends = erased_ends (erases c.flags.result) c.in-Erased.ensures.result in
     let E : Option ℕ → Type 0 = λ g. erases g ≡ true in
     let v = live_read es i c.index.result.now y t held.0 c.index.ensures c.index_mut.ensures.value (sym c.if-not-is_live.ensures.result) in
-    let P : Outcome → Type 0 = λ o. Fitted f c.args.side flags t es (swap_remove (set es i z) i c.take_out.result) (Some o) (find t f es) in
-    let Q : List Entry → Type 0 = λ xs. Fitted f c.args.side flags t es xs (Some c.advance-outcome.result) (find t f es) in
+    let P : Outcome → Type 0 = λ o. Fitted f c.args.side flags t es (swap_remove (set es i z) i c.take_out.result) (Some o) (live_entry t f es) in
+    let Q : List Entry → Type 0 = λ xs. Fitted f c.args.side flags t es xs (Some c.advance-outcome.result) (live_entry t f es) in
     record {
       result = subst Q (sym c.take_out.ensures.later) (subst P (sym c.in-Erased.is)
           (fit_erased f c.args.side flags t es i c.args.self.now.apart held y c.index_mut.ensures.value z c.take_out.result v
-          (subst E c.flags.ensures.result ends) (c.in-Erased.ensures.later ∙ when_true _ _ _ ends)));
+          (subst E c.flags.ensures.result ends) (c.in-Erased.ensures.later ∙ cond-true _ _ _ ends)));
     }
