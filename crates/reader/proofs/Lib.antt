@@ -1,3 +1,2 @@
 mod Bits
 mod Carries
-mod Order

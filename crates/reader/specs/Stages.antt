@@ -1,39 +1,29 @@
--- The two stages of the checks: the lengths of a packet first, then the header and the payload that they mark out.
-use Rattle.std.specs.Prelude.{◌≡◌, ℕ, ◌≤◌, Bool, List, [], ◌∷◌, length, None, Option}
+-- What is shown on the way through the checks: after checks 2 to 5, and after check 7.
+use Rattle.std.specs.Prelude.{◌≡◌, ℕ, true, false, List, [], ◌∷◌, length, Some, None, Option}
 use Rattle.fields.specs.declared.refusal.Refusal.{Refusal}
 use Rattle.fields.specs.declared.refusal.Reason.TheVariants as reason
-use Rattle.reader.specs.declared.extent.Extent.{Extent}
-use Rattle.reader.specs.Layouts.{ip_total_length}
-use Rattle.reader.specs.Checks.{refusal, header_length, truncated, other_version, bad_header_length, bad_total_length, bad_checksum, short_payload, first_of}
+use Rattle.reader.specs.declared.datagram.Datagram.{Datagram}
+use Rattle.reader.specs.declared.transport.Transport.{Transport}
+use Rattle.reader.specs.Layouts.{ip_protocol}
+use Rattle.reader.specs.Checks.{refusal, header_length, header_of, payload_of, bad_checksum, short_payload, first_of, packet_fault}
+use Rattle.reader.specs.Values.{is_later}
 
--- checks 2 to 5
-abbrev pub extent_checks : List ℕ → List (Bool × Refusal)
-extent_checks bs =
-    (truncated bs, refusal reason.Truncated (length bs))
-    ∷ (other_version bs, refusal reason.Version 0)
-    ∷ (bad_header_length bs, refusal reason.HeaderLength 0)
-    ∷ (bad_total_length bs, refusal reason.TotalLength 2)
-    ∷ []
-
-unfoldable pub extent_fault : List ℕ → Option Refusal
-extent_fault bs = first_of (extent_checks bs)
-
--- checks 6 and 7, by where the payload begins
-abbrev pub content_checks : List ℕ → List ℕ → ℕ → List (Bool × Refusal)
-content_checks header payload start =
+-- checks 6 and 7
+unfoldable pub content_fault : List ℕ → List ℕ → Option Refusal
+content_fault header payload = first_of (
     (bad_checksum header, refusal reason.Checksum 10)
-    ∷ (short_payload header payload, refusal reason.Payload start)
-    ∷ []
+    ∷ (short_payload header payload, refusal reason.Payload (length header))
+    ∷ [])
 
-unfoldable pub content_fault : List ℕ → List ℕ → ℕ → Option Refusal
-content_fault header payload start = first_of (content_checks header payload start)
+-- the parts of a packet that passes checks 2 to 5; only what they hold is left to check
+pub record Cut (bs : List ℕ) (d : Datagram) : Type 0 where
+  pub header : d.header.bytes.now ≡ header_of bs
+  pub payload : d.payload.now ≡ payload_of bs
+  pub start : length (header_of bs) ≡ header_length bs
+  pub left : packet_fault bs ≡ content_fault (header_of bs) (payload_of bs)
 
--- the lengths of a packet that passes the first stage
-pub record Extends (bs : List ℕ) (e : Extent) : Type 0 where
-  pub passes : extent_fault bs ≡ None
-  pub header : e.header ≡ header_length bs
-  pub total : e.total ≡ ip_total_length bs
-  pub least : 20 ≤ e.header
-  pub most : e.header ≤ 60
-  pub order : e.header ≤ e.total
-  pub within : e.total ≤ length bs
+-- what the payload begins with, where it passes check 7: a later fragment has no header of its protocol
+abbrev pub Begins : List ℕ → List ℕ → Option Transport → Type 0
+Begins header payload None = is_later header ≡ true
+Begins header payload (Some t) =
+    (is_later header ≡ false) × (short_payload header payload ≡ false) × (t.protocol ≡ ip_protocol header) × (t.payload.now ≡ payload)

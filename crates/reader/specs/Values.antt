@@ -42,13 +42,9 @@ abbrev pub flag_bits : Option Flags → Option ℕ
 flag_bits None = None
 flag_bits (Some f) = Some f.bits
 
--- the flags that the fields of a packet hold: the low six bits of the byte that they keep
-abbrev pub low_six : Option ℕ → Option ℕ
-low_six None = None
-low_six (Some control) = Some (control % 64)
-
+-- the flags that the fields of a packet hold
 abbrev pub flags_held : Fields → Option ℕ
-flags_held f = low_six f.control
+flags_held f = flag_bits f.flags
 
 pub record FieldsOf (header payload : List ℕ) (f : Fields) : Type 0 where
   pub source : f.source.bits ≡ ip_source header

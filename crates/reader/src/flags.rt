@@ -10,9 +10,6 @@ impl Fields {
     pub fn flags(&self) -> Option<Flags>
         ensures result { flag_bits result ≡ flags_held self.now }
     {
-        match self.control {
-            Some(control) => Some(Flags::of(control)),
-            None => None,
-        }
+        self.flags
     }
 }

@@ -1,64 +1,76 @@
-// The fields of the Internet header (RFC 791, section 3.1), each read from where it stands.
-ghost use Rattle.std.specs.Prelude.{◌≡◌, ◌≤◌, length};
+// The Internet header (RFC 791, section 3.1): each field is read from where it stands.
+ghost use Rattle.std.specs.Prelude.{◌≡◌, ◌≤◌, length, false, true, MatchResult};
+ghost use Rattle.fields.specs.declared.refusal.Reason.TheVariants as reason;
 ghost use Rattle.reader.specs.Layouts.{ip_version, ip_total_length, ip_fragment_offset, ip_protocol, ip_source, ip_destination};
-ghost use Rattle.reader.specs.Checks.{header_length};
+ghost use Rattle.reader.specs.Checks.{refusal, truncated, header_length};
 
 use crate::numbers::{long, octet, word};
+use crate::refuse::refuse_if;
+use fields::refusal::{Reason, Refusal};
 use fields::values::address::Address;
 
-pub(crate) fn version(header: &[u8]) -> u8
-    requires { 20 ≤ length header.now }
-    ensures result { result ≡ ip_version header.now }
-{
-    octet(header, 0) / 16
+// Bytes that begin with a header: at least those of the shortest one.
+#[derive(Clone, Copy)]
+pub(crate) struct Header<'a> {
+    pub(crate) bytes: &'a [u8],
+    ghost least: { 20 ≤ length bytes.now },
 }
 
-// In bytes; the header states it in rows of four.
-pub(crate) fn header_length(header: &[u8]) -> usize
-    requires { 20 ≤ length header.now }
-    ensures result { result ≡ header_length header.now }
-    ensures most { result ≤ 60 }
-{
-    usize::from(octet(header, 0) % 16) * 4
-}
-
-// The length of header and payload, in bytes.
-pub(crate) fn total_length(header: &[u8]) -> usize
-    requires { 20 ≤ length header.now }
-    ensures result { result ≡ ip_total_length header.now }
-{
-    usize::from(word(header, 2))
-}
-
-// The low 13 bits; the three above them are the fragment flags.
-pub(crate) fn fragment_offset(header: &[u8]) -> u16
-    requires { 20 ≤ length header.now }
-    ensures result { result ≡ ip_fragment_offset header.now }
-{
-    word(header, 6) % 0x2000
-}
-
-pub(crate) fn protocol(header: &[u8]) -> u8
-    requires { 20 ≤ length header.now }
-    ensures result { result ≡ ip_protocol header.now }
-{
-    octet(header, 9)
-}
-
-pub(crate) fn source(header: &[u8]) -> Address
-    requires { 20 ≤ length header.now }
-    ensures result { result.bits ≡ ip_source header.now }
-{
-    Address {
-        bits: long(header, 12),
+impl<'a> Header<'a> {
+    pub(crate) fn new(bytes: &'a [u8]) -> Result<Self, Refusal>
+        ensures result { MatchResult result (λ h. (truncated bytes.now ≡ false) × (h.bytes.now ≡ bytes.now)) (λ e. (truncated bytes.now ≡ true) × (e ≡ refusal reason.Truncated (length bytes.now))) }
+    {
+        refuse_if(bytes.len() < 20, Reason::Truncated, bytes.len())?;
+        Ok(Header { bytes })
     }
-}
 
-pub(crate) fn destination(header: &[u8]) -> Address
-    requires { 20 ≤ length header.now }
-    ensures result { result.bits ≡ ip_destination header.now }
-{
-    Address {
-        bits: long(header, 16),
+    pub(crate) fn version(&self) -> u8
+        ensures result { result ≡ ip_version self.now.bytes.now }
+    {
+        octet(self.bytes, 0) / 16
+    }
+
+    // In bytes; the header states it in rows of four.
+    pub(crate) fn length(&self) -> usize
+        ensures result { result ≡ header_length self.now.bytes.now }
+        ensures most { result ≤ 60 }
+    {
+        usize::from(octet(self.bytes, 0) % 16) * 4
+    }
+
+    // The length of header and payload, in bytes.
+    pub(crate) fn total_length(&self) -> usize
+        ensures result { result ≡ ip_total_length self.now.bytes.now }
+    {
+        usize::from(word(self.bytes, 2))
+    }
+
+    // The low 13 bits; the three above them are the fragment flags.
+    pub(crate) fn fragment_offset(&self) -> u16
+        ensures result { result ≡ ip_fragment_offset self.now.bytes.now }
+    {
+        word(self.bytes, 6) % 0x2000
+    }
+
+    pub(crate) fn protocol(&self) -> u8
+        ensures result { result ≡ ip_protocol self.now.bytes.now }
+    {
+        octet(self.bytes, 9)
+    }
+
+    pub(crate) fn source(&self) -> Address
+        ensures result { result.bits ≡ ip_source self.now.bytes.now }
+    {
+        Address {
+            bits: long(self.bytes, 12),
+        }
+    }
+
+    pub(crate) fn destination(&self) -> Address
+        ensures result { result.bits ≡ ip_destination self.now.bytes.now }
+    {
+        Address {
+            bits: long(self.bytes, 16),
+        }
     }
 }

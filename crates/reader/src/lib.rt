@@ -3,14 +3,14 @@
 
 mod checks;
 mod checksum;
-mod extent;
+mod datagram;
 mod flags;
-mod found;
 mod header;
 mod numbers;
 pub mod packet;
 pub mod part;
 mod read;
+mod refuse;
 mod transport;
 pub mod values;
 

@@ -1,5 +1,6 @@
 // The values of a packet's fields. A field that the packet does not have is None.
 use fields::values::address::Address;
+use fields::values::flags::Flags;
 use fields::values::port::Port;
 use fields::values::protocol::Protocol;
 
@@ -33,7 +34,6 @@ pub struct Fields {
     // whether the packet is a fragment behind the first, with no transport header of its own
     pub later: bool,
     pub ports: Option<Ports>,
-    // the byte of the TCP header that has the flags in its low six bits; `flags` makes their value of it
-    pub(crate) control: Option<u8>,
+    pub flags: Option<Flags>,
     pub echo: Option<Echo>,
 }
