@@ -1,5 +1,5 @@
 -- The fields of a packet, by its header and its payload; a field that the packet does not have is None.
-use Rattle.std.specs.Prelude.{◌≡◌, ℕ, ◌%◌, Bool, cond, not, ◌||◌, List, Some, None, Option, ◌==◌}
+use Rattle.std.specs.Prelude.{◌≡◌, ℕ, Bool, cond, not, ◌||◌, List, Some, None, Option, ◌==◌}
 use Rattle.fields.specs.declared.values.flags.Flags.{Flags}
 use Rattle.reader.specs.declared.values.Ports.{Ports}
 use Rattle.reader.specs.declared.values.Echo.{Echo}

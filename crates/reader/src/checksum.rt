@@ -2,8 +2,6 @@
 ghost use Rattle.std.specs.Prelude.{◌≡◌, ◌≤◌, length};
 ghost use Rattle.reader.specs.Sums.{carried, words_sum};
 
-use crate::numbers::word;
-
 // The low 16 bits, with the carries above them added back in.
 fn carry(sum: u32) -> u32
     ensures result { result ≡ carried sum }
@@ -16,9 +14,10 @@ pub(crate) fn ones_sum(header: &[u8]) -> u16
     requires { length header.now ≤ 60 }
     ensures result { result ≡ words_sum header.now }
 {
+    let (words, _) = header.as_chunks::<2>();
     let mut sum = 0;
-    for i in 0..header.len() / 2 {
-        sum += u32::from(word(header, 2 * i));
+    for bytes in words {
+        sum += u32::from(u16::from_be_bytes(*bytes));
     }
     carry(carry(sum)) as u16
 }

@@ -58,6 +58,7 @@ impl<'a> Header<'a> {
         octet(self.bytes, 9)
     }
 
+    // Source and destination are two boxes of the drawing; what they share is `long`.
     pub(crate) fn source(&self) -> Address
         ensures result { result.bits ≡ ip_source self.now.bytes.now }
     {

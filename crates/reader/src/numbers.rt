@@ -1,4 +1,4 @@
-// Numbers in a packet, the most significant byte first.
+// Numbers in a packet, the most significant byte first. Each width is read by the library's own call; one generic reader would name the width at every use.
 ghost use Rattle.std.specs.Prelude.{◌≡◌, ◌+◌, ◌*◌, ◌<◌, length};
 ghost use Rattle.reader.specs.Drawings.{bits};
 
@@ -23,5 +23,10 @@ pub(crate) fn long(bytes: &[u8], i: usize) -> u32
     requires { i + 3 < length bytes.now }
     ensures result { result ≡ bits (8 * i) 32 bytes.now }
 {
-    u32::from(word(bytes, i)) * 0x1_0000 + u32::from(word(bytes, i + 2))
+    u32::from_be_bytes([
+        octet(bytes, i),
+        octet(bytes, i + 1),
+        octet(bytes, i + 2),
+        octet(bytes, i + 3),
+    ])
 }

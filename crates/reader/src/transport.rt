@@ -101,6 +101,7 @@ fn ports_at(payload: &[u8]) -> Ports
     }
 }
 
+// What an ICMP message is to an echo. A TryFrom would need an error that nobody reads.
 fn kind(message: u8) -> Option<EchoKind>
     ensures result { result ≡ echo_kind message }
 {

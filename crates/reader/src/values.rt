@@ -31,7 +31,7 @@ pub struct Fields {
     pub protocol: Protocol,
     // where the payload belongs in the whole datagram, in units of 8 bytes
     pub offset: u16,
-    // whether the packet is a fragment behind the first, with no transport header of its own
+    // whether the offset is above 0: a fragment behind the first, with no transport header of its own
     pub later: bool,
     pub ports: Option<Ports>,
     pub flags: Option<Flags>,

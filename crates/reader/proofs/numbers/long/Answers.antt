@@ -3,6 +3,4 @@ use Rattle.reader.proofs.Bits.{long_bits}
 use Rattle.reader.proofs.numbers.long.Goals as goal
 
 pub returns : goal.returns
-returns c =
-    let w = long_bits c.args.i c.args.bytes.now in
-    record { result = omega arith }
+returns c = record { result = omega (arith, long_bits c.args.i c.args.bytes.now) }
