@@ -1,5 +1,5 @@
 -- The checks of a packet, in the order of their numbers, and what the reader says where one fails.
-use Rattle.std.specs.Prelude.{◌≡◌, ℕ, ◌-◌, ◌*◌, Bool, true, cond, not, ◌&&◌, ◌||◌, List, [], ◌∷◌, length, take, drop, Some, None, Option, Ok, Err, Result, ◌==◌, nat_lt}
+use Rattle.std.specs.Prelude.{ℕ, ◌-◌, ◌*◌, Bool, cond, not, ◌&&◌, ◌||◌, List, [], ◌∷◌, length, take, drop, Some, None, Option, Ok, Err, Result, ◌==◌, nat_lt}
 use Rattle.fields.specs.declared.refusal.Refusal.{Refusal}
 use Rattle.fields.specs.declared.refusal.Reason.{Reason}
 use Rattle.fields.specs.declared.refusal.Reason.TheVariants as reason
@@ -51,10 +51,6 @@ bad_checksum header = not (words_sum header == 65535)
 -- a packet that is no later fragment has less than the header of its protocol
 abbrev pub short_payload : List ℕ → List ℕ → Bool
 short_payload header payload = ip_fragment_offset header == 0 && nat_lt (length payload) (least_payload (ip_protocol header))
-
--- such a packet is refused at the end of its header
-abbrev pub IsShort : List ℕ → List ℕ → Refusal → Type 0
-IsShort header payload e = (short_payload header payload ≡ true) × (e ≡ refusal reason.Payload (length header))
 
 -- what the first test that is true says
 abbrev pub first_of : List (Bool × Refusal) → Option Refusal

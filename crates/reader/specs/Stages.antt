@@ -9,21 +9,28 @@ use Rattle.reader.specs.Checks.{refusal, header_length, header_of, payload_of, b
 use Rattle.reader.specs.Values.{is_later}
 
 -- checks 6 and 7
-unfoldable pub content_fault : List ℕ → List ℕ → Option Refusal
-content_fault header payload = first_of (
-    (bad_checksum header, refusal reason.Checksum 10)
-    ∷ (short_payload header payload, refusal reason.Payload (length header))
+unfoldable pub content_fault : Datagram → Option Refusal
+content_fault d = first_of (
+    (bad_checksum d.header.bytes.now, refusal reason.Checksum 10)
+    ∷ (short_payload d.header.bytes.now d.payload.now, refusal reason.Payload (length d.header.bytes.now))
     ∷ [])
 
 -- the parts of a packet that passes checks 2 to 5; only what they hold is left to check
 pub record Cut (bs : List ℕ) (d : Datagram) : Type 0 where
   pub header : d.header.bytes.now ≡ header_of bs
   pub payload : d.payload.now ≡ payload_of bs
-  pub start : length (header_of bs) ≡ header_length bs
-  pub left : packet_fault bs ≡ content_fault (header_of bs) (payload_of bs)
+  pub start : length d.header.bytes.now ≡ header_length bs
+  pub left : packet_fault bs ≡ content_fault d
 
 -- what the payload begins with, where it passes check 7: a later fragment has no header of its protocol
-abbrev pub Begins : List ℕ → List ℕ → Option Transport → Type 0
-Begins header payload None = is_later header ≡ true
-Begins header payload (Some t) =
-    (is_later header ≡ false) × (short_payload header payload ≡ false) × (t.protocol ≡ ip_protocol header) × (t.payload.now ≡ payload)
+abbrev pub Begins : Datagram → Option Transport → Type 0
+Begins d None = is_later d.header.bytes.now ≡ true
+Begins d (Some t) =
+    (is_later d.header.bytes.now ≡ false)
+    × (short_payload d.header.bytes.now d.payload.now ≡ false)
+    × (t.protocol ≡ ip_protocol d.header.bytes.now)
+    × (t.payload.now ≡ d.payload.now)
+
+-- how check 7 fails: at the end of the header
+abbrev pub IsShort : Datagram → Refusal → Type 0
+IsShort d e = (short_payload d.header.bytes.now d.payload.now ≡ true) × (e ≡ refusal reason.Payload (length d.header.bytes.now))

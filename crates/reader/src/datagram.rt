@@ -18,7 +18,7 @@ impl<'a> Datagram<'a> {
 
     // Cuts a packet at the lengths that it states, where they fit what there is of it; what lies behind its total length is left out.
     pub(crate) fn cut(bytes: &'a [u8]) -> Result<Self, Refusal>
-        ensures result { MatchResult result (λ d. Cut bytes.now d) (λ e. packet_fault bytes.now ≡ Some e) }
+        ensures result { MatchResult result (Cut bytes.now) (λ e. packet_fault bytes.now ≡ Some e) }
     {
         let header = Header::new(bytes)?;
         refuse_if(header.version() != 4, Reason::Version, 0)?;

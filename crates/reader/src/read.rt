@@ -15,7 +15,7 @@ use fields::values::protocol::Protocol;
 
 // The fields of a packet, by what its payload begins with.
 fn values(datagram: Datagram, transport: Option<Transport>) -> Fields
-    requires { Begins datagram.header.bytes.now datagram.payload.now transport }
+    requires { Begins datagram transport }
     ensures result { FieldsOf datagram.entry.header.bytes.now datagram.entry.payload.now result }
 {
     let header = datagram.header;

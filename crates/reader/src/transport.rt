@@ -1,6 +1,6 @@
 // The header that the payload of a packet begins with, by its protocol.
 ghost use Rattle.std.specs.Prelude.{◌≡◌, ◌≤◌, length, MatchResult};
-ghost use Rattle.reader.specs.Checks.{least_payload, IsShort};
+ghost use Rattle.reader.specs.Checks.{least_payload};
 ghost use Rattle.reader.specs.Values.{ports_at, ports_of, flag_bits, flags_of, echo_kind, echo_of};
 
 use crate::datagram::Datagram;
@@ -26,11 +26,11 @@ pub(crate) struct Transport<'a> {
 }
 
 impl<'a> Transport<'a> {
-    ghost use Rattle.reader.specs.Stages.{Begins};
+    ghost use Rattle.reader.specs.Stages.{Begins, IsShort};
 
     // What the payload begins with; a later fragment has no header of its protocol.
     pub(crate) fn of(datagram: Datagram<'a>) -> Result<Option<Self>, Refusal>
-        ensures result { MatchResult result (λ t. Begins datagram.entry.header.bytes.now datagram.entry.payload.now t) (λ e. IsShort datagram.entry.header.bytes.now datagram.entry.payload.now e) }
+        ensures result { MatchResult result (Begins datagram.entry) (IsShort datagram.entry) }
     {
         let header = datagram.header;
         if header.fragment_offset() != 0 {
