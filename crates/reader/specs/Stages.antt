@@ -9,7 +9,7 @@ use Rattle.reader.specs.Checks.{refusal, header_length, header_of, payload_of, b
 use Rattle.reader.specs.Values.{is_later}
 
 -- checks 6 and 7
-unfoldable pub content_fault : Datagram → Option Refusal
+abbrev pub content_fault : Datagram → Option Refusal
 content_fault d = first_of (
     (bad_checksum d.header.bytes.now, refusal reason.Checksum 10)
     ∷ (short_payload d.header.bytes.now d.payload.now, refusal reason.Payload (length d.header.bytes.now))
