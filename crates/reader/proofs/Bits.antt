@@ -1,9 +1,8 @@
 -- Runs of bits: how two stand side by side, and what the bits of a byte spell.
-use Rattle.std.proofs.Common.{◌≡◌, ℕ, zero, suc, ◌+◌, ◌-◌, ◌*◌, ◌/◌, ◌%◌, ◌^◌, ◌<◌, ◌≤◌, List, get_or, drop, sym, ap, ◌∙◌, add-zero, add_assoc, add-suc, mod-lt, mul_assoc, add-mul, pow-suc, add-one, arith, shr-shr}
-use native.Mathlib.Nat.{mod-one}
+use Rattle.std.proofs.Common.{◌≡◌, ℕ, zero, suc, ◌+◌, ◌-◌, ◌*◌, ◌/◌, ◌%◌, ◌^◌, ◌<◌, List, get_or, drop, ap, ◌∙◌, add-zero, add_assoc, add-suc, mod-lt, mul_assoc, add-mul, pow-suc, arith, lit<}
 use Rattle.std.specs.Simd.{first_chunks}
 use Rattle.std.proofs.lemmas.List.{get_or-take, get_or-drop}
-use lib.Pow.{high, low, mod-pow-add}
+use lib.Pow.{high, low}
 use Rattle.reader.specs.Drawings.{bit, bits}
 
 pub bits_lt : (k n : ℕ) (bs : List ℕ) → bits k n bs < 2 ^ n
@@ -34,30 +33,18 @@ bits_high k m n bs = ap (λ x. x / 2 ^ n) (bits_join k m n bs) ∙ high (bits k 
 pub bits_low : (k m n : ℕ) (bs : List ℕ) → bits k (m + n) bs % 2 ^ n ≡ bits (k + m) n bs
 bits_low k m n bs = ap (λ x. x % 2 ^ n) (bits_join k m n bs) ∙ low (bits k m bs) n (bits_lt (k + m) n bs)
 
--- the bit w of byte i
+-- the bit w of byte i, and all eight of them
 bit_in : (i w : ℕ) (bs : List ℕ) → w < 8 → bit (8 * i + w) bs ≡ get_or bs i 0 / 2 ^ (7 - w) % 2
 bit_in i w bs l =
     let q : (8 * i + w) / 8 ≡ i = omega arith in
     let r : (8 * i + w) % 8 ≡ w = omega arith in
     rw (q, r)
 
--- the first w bits of byte i
-first_bits : (i w : ℕ) (bs : List ℕ) → w ≤ 8 → bits (8 * i) w bs ≡ get_or bs i 0 / 2 ^ (8 - w) % 2 ^ w
-unfolding bits
-first_bits i zero bs l = sym (mod-one _)
-first_bits i (suc w) bs l =
-    let b = get_or bs i 0 in
-    let n : 8 - suc w ≡ 7 - w = omega arith in
-    let e : 8 - w ≡ 7 - w + 1 = omega arith in
-    let s = shr-shr b (7 - w) 1 in
-    let h = first_bits i w bs (omega arith) in
-    let t = bit_in i w bs (omega arith) in
-    let m = mod-pow-add (b / 2 ^ (7 - w)) w 1 in
-    let a = add-one w in
-    cc
-
 pub octet_bits : (i : ℕ) (bs : List ℕ) → get_or bs i 0 < 256 → bits (8 * i) 8 bs ≡ get_or bs i 0
-octet_bits i bs l = first_bits i 8 bs (omega arith) ∙ omega arith
+unfolding bits
+octet_bits i bs l =
+    let b = λ (w : ℕ) (h : w < 8). bit_in i w bs h in
+    omega (arith, b 0 (lit< tt), b 1 (lit< tt), b 2 (lit< tt), b 3 (lit< tt), b 4 (lit< tt), b 5 (lit< tt), b 6 (lit< tt), b 7 (lit< tt))
 
 -- two bytes, and four
 pub word_bits : (i : ℕ) (bs : List ℕ) → bits (8 * i) 16 bs ≡ bits (8 * i) 8 bs * 256 + bits (8 * (i + 1)) 8 bs

@@ -87,7 +87,7 @@ fn least(protocol: u8) -> usize
 }
 
 // The ports, with which the headers of TCP and UDP begin alike.
-fn ports_at(payload: &[u8]) -> Ports
+pub(crate) fn ports_at(payload: &[u8]) -> Ports
     requires { 4 ≤ length payload.now }
     ensures result { result ≡ ports_at payload.now }
 {
