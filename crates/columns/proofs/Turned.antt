@@ -9,8 +9,19 @@ use Rattle.rows.specs.Bits.{put_in, taken_out, differs}
 use Rattle.fields.specs.declared.refusal.Refusal.{Refusal}
 use Rattle.columns.specs.Edits.{insert_answer, insert_after, remove_answer, remove_after}
 use Rattle.fields.specs.Conditions.{sided_admits}
+use Rattle.fields.specs.Senses.{inverts, sense_of}
+use Rattle.fields.specs.declared.condition.sided.Sense.{Sense}
+use Rattle.fields.specs.declared.condition.sided.Sense.TheVariants as sense
 use Rattle.columns.specs.Sides.{sided, turned}
 use Rattle.columns.proofs.Accepted.{insert_ok, insert_after_ok, insert_after_err, remove_ok, remove_after_ok, remove_after_err}
+
+inverts_sense : (b : Bool) → inverts (sense_of b) ≡ b
+inverts_sense true = refl
+inverts_sense false = refl
+
+sense_inverts : (s : Sense) → sense_of (inverts s) ≡ s
+sense_inverts sense.Plain = refl
+sense_inverts sense.Inverted = refl
 
 pub length_sided : {K : Type 0} (xs : List K) (t : ℕ → Bool) → length (sided xs t) ≡ length xs
 length_sided [] t = refl
@@ -31,7 +42,7 @@ put_suc t p b i = ⊎_elim
     (cases_order i p)
 
 sided_inserted : {K : Type 0} (xs : List K) (p : ℕ) (c : K) (b : Bool) (t u : ℕ → Bool) → p ≤ length xs
-    → ((i : ℕ) → i < length xs + 1 → u i ≡ put_in t p b i) → sided (insert xs p c) u ≡ insert (sided xs t) p (record { condition = c; inverted = b })
+    → ((i : ℕ) → i < length xs + 1 → u i ≡ put_in t p b i) → sided (insert xs p c) u ≡ insert (sided xs t) p (record { condition = c; sense = sense_of b })
 sided_inserted xs zero c b t u h e =
     let a : u 0 ≡ b = e 0 (omega arith) in
     let d = sided_ext xs (λ i. u (suc i)) t (λ i l. let f = e (suc i) (omega arith) in grind (arith, nat_tests)) in
@@ -66,30 +77,33 @@ pub sided_test : {K V : Type 0} (holds : K → Option V → Bool) (v : Option V)
     → get_or (map (λ c. sided_admits holds c v) (sided xs t)) i false
     ≡ cond (ltb i (length xs)) (cond (t i) (is_some v && not (get_or (map (λ c. holds c v) xs) i false)) (get_or (map (λ c. holds c v) xs) i false)) false
 sided_test holds v [] t i = sym (cond-false (ltb i 0) _ _ (le-ltb i 0 (omega arith)))
-sided_test holds v (x ∷ xs) t zero = sym (cond-true (ltb 0 (suc (length xs))) _ _ (lt-ltb 0 (suc (length xs)) (omega arith)))
+sided_test holds v (x ∷ xs) t zero =
+    ap (λ b. cond b (is_some v && not (holds x v)) (holds x v)) (inverts_sense (t 0))
+    ∙ sym (cond-true (ltb 0 (suc (length xs))) _ _ (lt-ltb 0 (suc (length xs)) (omega arith)))
 sided_test holds v (x ∷ xs) t (suc i) = sided_test holds v xs (λ i. t (suc i)) i
     ∙ ap (λ b. cond b (cond (t (suc i)) (is_some v && not (get_or (map (λ c. holds c v) xs) i false)) (get_or (map (λ c. holds c v) xs) i false)) false)
     (sym (leb-suc-suc (suc i) (length xs)))
 
-pub insert_turned : {K : Type 0} (p : ℕ) (c : K) (b : Bool) (xs ys : List K) (t u : ℕ → Bool) → Ok tt ≡ insert_answer p (length xs)
-    → ys ≡ insert_after p c xs → ((i : ℕ) → u i ≡ cond (ltb i 512) (put_in t (p - 1) b i) false)
-    → sided ys u ≡ insert_after p (record { condition = c; inverted = b }) (sided xs t)
-insert_turned p c b xs ys t u ok after put =
+pub insert_turned : {K : Type 0} (p : ℕ) (c : K) (s : Sense) (xs ys : List K) (t u : ℕ → Bool) → Ok tt ≡ insert_answer p (length xs)
+    → ys ≡ insert_after p c xs → ((i : ℕ) → u i ≡ cond (ltb i 512) (put_in t (p - 1) (inverts s) i) false)
+    → sided ys u ≡ insert_after p (record { condition = c; sense = s }) (sided xs t)
+insert_turned p c s xs ys t u ok after put =
     let q = insert_ok p (length xs) ok in
     let lo = q.0 in
     let hi = q.1 in
     let few = q.2 in
     let n = length_sided xs t in
     ap (λ zs. sided zs u) (after ∙ insert_after_ok p c xs lo hi few)
-    ∙ sided_inserted xs (p - 1) c b t u (omega arith)
-    (λ i l. put i ∙ cond-true (ltb i 512) (put_in t (p - 1) b i) false (lt-ltb i 512 (omega arith)))
-    ∙ sym (insert_after_ok p (record { condition = c; inverted = b }) (sided xs t) lo (omega arith) (omega arith))
+    ∙ sided_inserted xs (p - 1) c (inverts s) t u (omega arith)
+    (λ i l. put i ∙ cond-true (ltb i 512) (put_in t (p - 1) (inverts s) i) false (lt-ltb i 512 (omega arith)))
+    ∙ ap (λ z. insert (sided xs t) (p - 1) (record { condition = c; sense = z })) (sense_inverts s)
+    ∙ sym (insert_after_ok p (record { condition = c; sense = s }) (sided xs t) lo (omega arith) (omega arith))
 
-pub insert_refused : {K : Type 0} (p : ℕ) (c : K) (b : Bool) (xs ys : List K) (t : ℕ → Bool) (r : Refusal) → Err r ≡ insert_answer p (length xs)
-    → ys ≡ insert_after p c xs → sided ys t ≡ insert_after p (record { condition = c; inverted = b }) (sided xs t)
-insert_refused p c b xs ys t r e after =
+pub insert_refused : {K : Type 0} (p : ℕ) (c : K) (s : Sense) (xs ys : List K) (t : ℕ → Bool) (r : Refusal) → Err r ≡ insert_answer p (length xs)
+    → ys ≡ insert_after p c xs → sided ys t ≡ insert_after p (record { condition = c; sense = s }) (sided xs t)
+insert_refused p c s xs ys t r e after =
     ap (λ zs. sided zs t) (after ∙ insert_after_err p c xs r e)
-    ∙ sym (insert_after_err p (record { condition = c; inverted = b }) (sided xs t) r (e ∙ ap (insert_answer p) (sym (length_sided xs t))))
+    ∙ sym (insert_after_err p (record { condition = c; sense = s }) (sided xs t) r (e ∙ ap (insert_answer p) (sym (length_sided xs t))))
 
 pub remove_turned : {K : Type 0} (p : ℕ) (xs ys : List K) (t u : ℕ → Bool) → Ok tt ≡ remove_answer p (length xs)
     → ys ≡ remove_after p xs → ((i : ℕ) → u i ≡ taken_out t (p - 1) i) → sided ys u ≡ remove_after p (sided xs t)

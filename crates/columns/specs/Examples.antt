@@ -7,6 +7,7 @@ use Rattle.fields.specs.NamePatterns.{beginning_bytes, name_passes}
 use Rattle.fields.specs.Names.{name_bytes}
 use Rattle.fields.specs.declared.condition.plain.Plain.{Plain}
 use Rattle.fields.specs.declared.condition.plain.Plain.TheVariants.{Is}
+use Rattle.fields.specs.declared.condition.sided.Sense.TheVariants as sense
 use Rattle.fields.specs.declared.condition.sided.Sided.{Sided}
 use Rattle.fields.specs.declared.patterns.address.AddressPrefix.{AddressPrefix}
 use Rattle.fields.specs.declared.patterns.name.NameBeginning.{NameBeginning}
@@ -48,7 +49,7 @@ nested e a = word_of 64 (map (λ c. plain_admits within c (Some a)) (Is e.wide �
 
 -- the inverted port 443
 abbrev pub not_443 : Sided (Plain Port)
-not_443 = record { condition = Is (record { number = 443 }); inverted = true }
+not_443 = record { condition = Is (record { number = 443 }); sense = sense.Inverted }
 
 abbrev pub port_number : ℕ → Port
 port_number n = record { number = n }

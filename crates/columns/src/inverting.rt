@@ -37,23 +37,15 @@ impl<C: Column> Column for Inverting<C> {
     }
 
     fn insert(&mut self, position: usize, condition: Sided<C::Condition>) -> Result<(), Refusal> {
-        match self.below.insert(position, condition.condition()) {
-            Ok(()) => {
-                self.inverted.insert(position - 1, condition.is_inverted());
-                Ok(())
-            }
-            Err(refusal) => Err(refusal),
-        }
+        self.below.insert(position, condition.condition())?;
+        self.inverted.insert(position - 1, condition.is_inverted());
+        Ok(())
     }
 
     fn remove(&mut self, position: usize) -> Result<(), Refusal> {
-        match self.below.remove(position) {
-            Ok(()) => {
-                self.inverted.remove(position - 1);
-                Ok(())
-            }
-            Err(refusal) => Err(refusal),
-        }
+        self.below.remove(position)?;
+        self.inverted.remove(position - 1);
+        Ok(())
     }
 
     fn read(&self, value: Option<<C::Condition as Condition>::Value>, row: &mut Row)

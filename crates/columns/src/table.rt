@@ -9,7 +9,7 @@ use rows::Row;
 pub fn remove_each(rows: &mut [Row], place: usize)
     ensures later { (k : ℕ) (d : Row) → k < length rows.old → Out place (slice_index_or rows.old k d) (slice_index_or rows.new k d) }
 {
-    for code in 0..rows.len() {
-        rows[code].remove(place);
+    for row in rows {
+        row.remove(place);
     }
 }

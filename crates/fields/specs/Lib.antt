@@ -1,5 +1,6 @@
 pub mod Refusals
 pub mod Fields
+pub mod Senses
 pub mod Conditions
 pub mod Labels
 pub mod Strings

@@ -1,5 +1,5 @@
 -- What the making calls answer.
-use Rattle.std.specs.Prelude.{◌≡◌, ℕ, ◌<◌, Bool, true, false, List, Some, None, Ok, Err, Option, Result, bit_and}
+use Rattle.std.specs.Prelude.{◌≡◌, ℕ, ◌<◌, List, Some, None, Ok, Err, Option, Result, bit_and}
 use Rattle.fields.specs.Fields.{field_number}
 use Rattle.fields.specs.NameBytes.{text_fault, name_fault}
 use Rattle.fields.specs.Names.{name_bytes}
@@ -8,7 +8,6 @@ use Rattle.fields.specs.declared.condition.plain.Plain.{Plain}
 use Rattle.fields.specs.declared.condition.plain.Plain.TheVariants.{Is}
 use Rattle.fields.specs.declared.condition.sided.Sided.{Sided}
 use Rattle.fields.specs.declared.condition.sided.Sense.{Sense}
-use Rattle.fields.specs.declared.condition.sided.Sense.TheVariants as sense
 use Rattle.fields.specs.declared.field.Field.{Field}
 use Rattle.fields.specs.declared.field.Field.TheVariants as field
 use Rattle.fields.specs.declared.making.End.{End}
@@ -27,13 +26,9 @@ abbrev pub end_field : End → Field
 end_field end.Source = field.Source
 end_field end.Destination = field.Destination
 
-abbrev pub inverts : Sense → Bool
-inverts sense.Plain = false
-inverts sense.Inverted = true
-
 -- the condition that states a test, plain or inverted
 abbrev pub stated : {T : Type 0} → T → Sense → Sided (Plain T)
-stated t s = record { condition = Is t; inverted = inverts s }
+stated t s = record { condition = Is t; sense = s }
 
 -- refusal 11 at a field
 abbrev pub unlawful : Field → Refusal

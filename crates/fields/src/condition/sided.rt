@@ -2,6 +2,7 @@
 ghost use Rattle.std.specs.Prelude.{◌≡◌, true, false, Some, None};
 ghost use Rattle.fields.specs.Making.{stated as the_stated};
 ghost use Rattle.fields.specs.Conditions.{sided_admits, sided_any, plain_side, inverted_side};
+ghost use Rattle.fields.specs.Senses.{inverts};
 ghost use Rattle.std.proofs.Common.{rules};
 
 use crate::condition::plain::Plain;
@@ -17,7 +18,7 @@ pub enum Sense {
 #[derive(Clone, Copy, PartialEq, Eq, Debug)]
 pub struct Sided<K> {
     condition: K,
-    inverted: bool,
+    sense: Sense,
 }
 
 impl<K: Condition> Sided<K> {
@@ -26,7 +27,7 @@ impl<K: Condition> Sided<K> {
     {
         Sided {
             condition,
-            inverted: false,
+            sense: Sense::Plain,
         }
     }
 
@@ -39,7 +40,7 @@ impl<K: Condition> Sided<K> {
         }
         Some(Sided {
             condition,
-            inverted: true,
+            sense: Sense::Inverted,
         })
     }
 
@@ -50,9 +51,9 @@ impl<K: Condition> Sided<K> {
     }
 
     pub fn is_inverted(&self) -> bool
-        ensures result { result ≡ self.now.inverted }
+        ensures result { result ≡ inverts self.now.sense }
     {
-        self.inverted
+        self.sense == Sense::Inverted
     }
 }
 
@@ -61,13 +62,9 @@ impl<T: Test> Sided<Plain<T>> {
     pub(crate) fn stated(pattern: T, sense: Sense) -> Self
         ensures result { result ≡ the_stated pattern sense }
     {
-        let inverted = match sense {
-            Sense::Plain => false,
-            Sense::Inverted => true,
-        };
         Sided {
             condition: Plain::Is(pattern),
-            inverted,
+            sense,
         }
     }
 }
@@ -84,17 +81,16 @@ impl<K: Condition> Condition for Sided<K> {
     ghost absent = { Prim.search rules };
 
     fn is_any(&self) -> bool {
-        !self.inverted && self.condition.is_any()
+        !self.is_inverted() && self.condition.is_any()
     }
 
     fn holds_on(&self, value: Option<K::Value>) -> bool
         ensures result { result ≡ sided_admits K.Condition.admits self.now value }
     {
         let plain = self.condition.holds_on(value);
-        if self.inverted {
-            value.is_some() && !plain
-        } else {
-            plain
+        match self.sense {
+            Sense::Plain => plain,
+            Sense::Inverted => value.is_some() && !plain,
         }
     }
 }
