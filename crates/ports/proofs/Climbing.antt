@@ -1,65 +1,25 @@
--- Keys in strict order, after one more and one less, and the rows beside them.
-use Rattle.std.proofs.Common.{◌≡◌, ℕ, zero, suc, ◌+◌, ◌-◌, ◌<◌, ◌≤◌, Bool, true, false, eqb, List, length, get_or, sym, refl, ap, ◌∙◌, subst, ⊎_elim, add-one, arith}
+-- Keys in strict order, and the rows beside them, after one more and one less.
+use Rattle.std.proofs.Common.{◌≡◌, ℕ, ◌+◌, ◌-◌, ◌<◌, ◌≤◌, Bool, true, false, eqb, List, length, get_or, sym, refl, ap, ◌∙◌, subst, ⊎_elim, arith}
 use Rattle.std.specs.List.{insert, remove}
 use Rattle.std.specs.List.Sorted.{IsStrictlyIncreasing}
 use Rattle.std.proofs.lemmas.Bool.{cases_eq, cases_lt, cases_order, eq-eqb, ne_eqb}
+use Rattle.std.proofs.lemmas.List.Kept.{AllPairs-from_increasing}
 use Rattle.std.proofs.lemmas.List.Edits.{length-insert, get_or-insert_below, get_or-insert_at, get_or-insert_above, length-remove, get_or-remove_below, get_or-remove_above}
 use Rattle.columns.specs.Somewhere.{some}
 use Rattle.ports.specs.Keys.{has, Fits}
 use Rattle.columns.proofs.Pigeons.{pigeons}
 use Rattle.columns.proofs.Some.{some_at, some_none, some_where}
 
-pub climbing : (ks : List ℕ) → IsStrictlyIncreasing ks → (i j : ℕ) → i < j → j < length ks → get_or ks i 0 < get_or ks j 0
-climbing ks up i zero l h = absurd (omega arith)
-climbing ks up i (suc j) l h =
-    let step : get_or ks j 0 < get_or ks (suc j) 0 = subst (λ (n : ℕ). get_or ks j 0 < get_or ks n 0) (add-one j) (up j (omega arith)) in
-    ⊎_elim
-    (λ e. subst (λ (n : ℕ). get_or ks n 0 < get_or ks (suc j) 0) (sym e) step)
-    (λ n. omega (arith, climbing ks up i j (omega arith) (omega arith)))
-    (cases_eq i j)
-
 pub rising : (ks : List ℕ) → IsStrictlyIncreasing ks → (i j : ℕ) → i ≤ j → j < length ks → get_or ks i 0 ≤ get_or ks j 0
 rising ks up i j l h = ⊎_elim
     (λ e. let q = ap (λ n. get_or ks n 0) e in omega arith)
-    (λ n. omega (arith, climbing ks up i j (omega arith) h))
+    (λ n. omega (arith, AllPairs-from_increasing ks up i j 0 (omega arith) h))
     (cases_eq i j)
 
 -- where an element of a list with one more comes from
 above : {X : Type 0} (xs : List X) (i : ℕ) (x d : X) (k : ℕ) → i < k → i ≤ length xs → get_or (insert xs i x) k d ≡ get_or xs (k - 1) d
 above xs i x d k l h =
     ap (λ n. get_or (insert xs i x) n d) (let e : k ≡ (k - 1) + 1 = omega arith in e) ∙ get_or-insert_above xs i x d (k - 1) (omega arith) h
-
-pub climbs_inserted : (ks : List ℕ) (v i : ℕ) → IsStrictlyIncreasing ks → Fits ks v i → IsStrictlyIncreasing (insert ks i v)
-climbs_inserted ks v i up (h, before, behind) k l =
-    let n = length-insert ks i v h in
-    ⊎_elim
-    (λ e. let a = ap (λ m. get_or (insert ks i v) m 0) e ∙ get_or-insert_at ks i v 0 h in
-    let b = get_or-insert_above ks i v 0 k (omega arith) h in
-    omega (arith, behind k (omega arith) (omega arith)))
-    (⊎_elim
-    (λ less. let a = get_or-insert_below ks i v 0 k less h in
-    ⊎_elim
-    (λ e. let b = ap (λ m. get_or (insert ks i v) m 0) e ∙ get_or-insert_at ks i v 0 h in omega (arith, before k less))
-    (λ ne. let b = get_or-insert_below ks i v 0 (k + 1) (omega arith) h in omega (arith, up k (omega arith)))
-    (cases_eq (k + 1) i))
-    (λ more. let a = above ks i v 0 k more h in
-    let b = get_or-insert_above ks i v 0 k (omega arith) h in
-    omega (arith, climbing ks up (k - 1) k (omega arith) (omega arith))))
-    (cases_order k i)
-
-pub climbs_removed : (ks : List ℕ) (i : ℕ) → IsStrictlyIncreasing ks → i < length ks → IsStrictlyIncreasing (remove ks i)
-climbs_removed ks i up h k l =
-    let n = length-remove ks i h in
-    ⊎_elim
-    (λ less. let a = get_or-remove_below ks i 0 k less h in
-    ⊎_elim
-    (λ e. let b = get_or-remove_above ks i 0 (k + 1) (omega arith) h in omega (arith, climbing ks up k (k + 1 + 1) (omega arith) (omega arith)))
-    (λ ne. let b = get_or-remove_below ks i 0 (k + 1) (omega arith) h in omega (arith, up k (omega arith)))
-    (cases_eq (k + 1) i))
-    (λ ge. let a = get_or-remove_above ks i 0 k ge h in
-    let b = get_or-remove_above ks i 0 (k + 1) (omega arith) h in
-    omega (arith, up (k + 1) (omega arith)))
-    (cases_lt k i)
 
 pub has_found : (ks : List ℕ) (v i : ℕ) → i < length ks → get_or ks i 0 ≡ v → has ks v ≡ true
 has_found ks v i h e = some_at (λ k. eqb k v) ks i 0 h (eq-eqb (get_or ks i 0) v e)
@@ -74,8 +34,8 @@ has_no_more ks v i up h e =
     let n = length-remove ks i h in
     some_none (λ k. eqb k v) (remove ks i) 0
     (λ k l. ne_eqb (get_or (remove ks i) k 0) v (λ q. ⊎_elim
-    (λ lt. omega (arith, get_or-remove_below ks i 0 k lt h, climbing ks up k i lt h))
-    (λ ge. omega (arith, get_or-remove_above ks i 0 k ge h, climbing ks up i (k + 1) (omega arith) (omega arith)))
+    (λ lt. omega (arith, get_or-remove_below ks i 0 k lt h, AllPairs-from_increasing ks up k i 0 lt h))
+    (λ ge. omega (arith, get_or-remove_above ks i 0 k ge h, AllPairs-from_increasing ks up i (k + 1) 0 (omega arith) (omega arith)))
     (cases_lt k i)))
 
 -- keys that differ and are each named by an element of a list, no element naming two, are at most as many as the elements
@@ -85,7 +45,7 @@ pub lean : {C : Type 0} (names : C → ℕ → Bool) (d : C) (cs : List C) (ks :
 lean names d cs ks one up named =
     pigeons (length ks) (length cs) (λ j i. names (get_or cs i d) (get_or ks j 0) ≡ true)
     (λ j h. some_where (λ c. names c (get_or ks j 0)) cs d (sym (named (get_or ks j 0)) ∙ has_found ks (get_or ks j 0) j h refl))
-    (λ j k i l h a b. omega (arith, one (get_or cs i d) (get_or ks j 0) (get_or ks k 0) a b, climbing ks up j k l h))
+    (λ j k i l h a b. omega (arith, one (get_or cs i d) (get_or ks j 0) (get_or ks k 0) a b, AllPairs-from_increasing ks up j k 0 l h))
 
 -- what holds of each key and the row beside it holds after one more of both
 pub beside_inserted : {R : Type 0} (P : ℕ → R → Type 0) (ks : List ℕ) (rs : List R) (i v : ℕ) (r d : R) → length rs ≡ length ks → i ≤ length ks

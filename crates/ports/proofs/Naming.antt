@@ -59,7 +59,7 @@ told_given v row s t cs (inl (h, ks, rs)) stored others told =
 told_given v row s t cs (inr (i, fits, ks, rs)) stored others told =
     subst (λ (xs : List ℕ). Told xs (rows_of t) cs) (sym ks)
     (subst (λ (ys : List Row). Told (insert (keys_of s) i v) ys cs) (sym rs)
-    (beside_inserted (λ k r. Shows r (λ c. port_holds c k) cs) (keys_of s) (rows_of s) i v row (record { words = [] }) s.rows.level fits.0
+    (beside_inserted (λ k r. Shows r (λ c. port_holds c k) cs) (keys_of s) (rows_of s) i v row (record { words = [] }) s.level fits.0
     (shows_unnamed row cs v (sym (stored v) ∙ has_vacant (keys_of s) v i fits) others) told))
 
 -- a port whose row is taken out
@@ -82,7 +82,7 @@ told_taken v s t cs (inl (h, ks, rs)) told =
 told_taken v s t cs (inr (i, l, at, ks, rs)) told =
     subst (λ (xs : List ℕ). Told xs (rows_of t) cs) (sym ks)
     (subst (λ (ys : List Row). Told (remove (keys_of s) i) ys cs) (sym rs)
-    (beside_removed (λ k r. Shows r (λ c. port_holds c k) cs) (keys_of s) (rows_of s) i (record { words = [] }) s.rows.level l told))
+    (beside_removed (λ k r. Shows r (λ c. port_holds c k) cs) (keys_of s) (rows_of s) i (record { words = [] }) s.level l told))
 
 -- a condition whose port has a row
 pub ready_has : (c : Plain Port) (row : Row) (s t : OrderedRows) → Readied c row s t → (u : ℕ) → has (keys_of t) u ≡ (names c u || has (keys_of s) u)

@@ -6,10 +6,10 @@ use Rattle.rows.specs.declared.row.Row.{Row}
 use Rattle.ports.specs.declared.values.ordered.OrderedRows.{OrderedRows}
 
 abbrev pub keys_of : OrderedRows → List ℕ
-keys_of t = vec_items t.rows.keys
+keys_of t = vec_items t.keys
 
 abbrev pub rows_of : OrderedRows → List Row
-rows_of t = vec_items t.rows.rows
+rows_of t = vec_items t.rows
 
 -- a key has a row: it had one, or it has the new one at its place
 abbrev pub Given : ℕ → Row → OrderedRows → OrderedRows → Type 0

@@ -10,7 +10,6 @@ use fields::condition::plain::Plain;
 use fields::values::port::Port;
 use rows::Row;
 
-pub(crate) mod keyed;
 pub mod methods;
 pub(crate) mod naming;
 pub(crate) mod ordered;
@@ -23,7 +22,6 @@ pub struct ValueColumn {
     others: Row,
     ghost few: { vec_len conditions ≤ 512 },
     ghost room: { 512 ≤ vec_capacity conditions },
-    ghost limit: { 512 ≤ table.rows.limit },
     ghost stored: { (v : ℕ) → has (keys_of table) v ≡ named conditions.items v },
     ghost told: { TableShows (rows_of table) (λ c k. port_holds c (slice_index (keys_of table) k)) conditions.items },
     ghost untold: { Shows others on_any conditions.items },

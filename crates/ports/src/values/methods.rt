@@ -24,7 +24,7 @@ impl Column for ValueColumn {
 
     fn new(heap: Global) -> Result<Self, AllocError> {
         let conditions = Vec::with_capacity(heap, LIMIT)?;
-        let table = OrderedRows::new(heap, LIMIT)?;
+        let table = OrderedRows::new(heap)?;
         Ok(ValueColumn {
             conditions,
             table,
@@ -71,9 +71,8 @@ impl Column for ValueColumn {
 
 // Gives the port that the condition names a row of its own, a copy of `others`, unless it has one.
 fn make_ready(table: &mut OrderedRows, condition: &Plain<Port>, others: &Row)
-    requires { length (keys_of table.old) < table.old.rows.limit }
-    ensures ready { Readied condition.now others.now table.old table.new }
-    ensures limit { table.new.rows.limit ≡ table.old.rows.limit }
+    requires { length (keys_of table.old) < 512 }
+    ensures { Readied condition.now others.now table.old table.new }
 {
     if let Plain::Is(port) = condition {
         table.give(port.number, others);
@@ -82,12 +81,11 @@ fn make_ready(table: &mut OrderedRows, condition: &Plain<Port>, others: &Row)
 
 // Takes out the row of the port that the removed condition named, unless a condition that remains names it.
 fn clean_up(table: &mut OrderedRows, removed: &Plain<Port>, conditions: &[Plain<Port>])
-    ensures clean { Cleaned removed.now conditions.now table.old table.new }
-    ensures limit { table.new.rows.limit ≡ table.old.rows.limit }
+    ensures { Cleaned removed.now conditions.now table.old table.new }
 {
-    if let Plain::Is(port) = removed {
-        if !some_names(conditions, port.number) {
-            table.take_out(port.number);
-        }
+    if let Plain::Is(port) = removed
+        && !some_names(conditions, port.number)
+    {
+        table.take_out(port.number);
     }
 }

@@ -9,20 +9,14 @@ use fields::values::port::Port;
 fn names_port(condition: &Plain<Port>, port: u16) -> bool
     ensures { result ≡ names condition.now port }
 {
-    match condition {
-        Plain::Any => false,
-        Plain::Is(wanted) => wanted.number == port,
-    }
+    matches!(condition, Plain::Is(wanted) if wanted.number == port)
 }
 
 // Whether some condition has this very port.
 pub(crate) fn some_names(conditions: &[Plain<Port>], port: u16) -> bool
     ensures { result ≡ named conditions.now port }
 {
-    for condition in conditions {
-        if names_port(condition, port) {
-            return true;
-        }
-    }
-    false
+    conditions
+        .iter()
+        .any(|condition| names_port(condition, port))
 }

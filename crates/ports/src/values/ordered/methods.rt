@@ -6,26 +6,28 @@ ghost use Rattle.rows.specs.Tables.{Put, Out};
 ghost use Rattle.rows.specs.declared.row.Row.{Row};
 
 use super::OrderedRows;
-use crate::values::keyed::KeyedRows;
+use columns::column::LIMIT;
+use columns::table;
 use fields::condition::Condition;
 use fields::values::port::Port;
 use rows::Row;
 use std::alloc::{AllocError, Global};
 
 impl OrderedRows {
-    // No row, and the memory for `limit`.
-    pub(crate) fn new(heap: Global, limit: usize) -> Result<Self, AllocError>
-        ensures { IfOk result (λ t. (keys_of t ≡ []) × (rows_of t ≡ []) × (t.rows.limit ≡ limit)) }
+    // No row, and the memory for all that can be listed.
+    pub(crate) fn new(heap: Global) -> Result<Self, AllocError>
+        ensures { IfOk result (λ t. (keys_of t ≡ []) × (rows_of t ≡ [])) }
     {
-        let rows = KeyedRows::new(heap, limit)?;
-        Ok(OrderedRows { rows })
+        let keys = Vec::with_capacity(heap, LIMIT)?;
+        let rows = Vec::with_capacity(heap, LIMIT)?;
+        Ok(OrderedRows { keys, rows })
     }
 
     // Where the key stands, or, as an `Err`, where it belongs.
     pub(crate) fn find(&self, key: u16) -> Result<usize, usize>
         ensures { Sought (keys_of self.now) key result }
     {
-        self.rows.keys().binary_search(&key)
+        self.keys.binary_search(&key)
     }
 
     // The row at a place.
@@ -33,27 +35,28 @@ impl OrderedRows {
         requires { at < length (keys_of self.now) }
         ensures { result.now ≡ slice_index_or (rows_of self.now) at (record { words = [] }) }
     {
-        self.rows.row(at)
+        &self.rows[at]
     }
 
     // Gives the key a row, a copy of `row`, unless it has one.
     pub(crate) fn give(&mut self, key: u16, row: &Row)
-        requires { length (keys_of self.old) < self.old.rows.limit }
-        ensures given { Given key row.now self.old self.new }
-        ensures limit { self.new.rows.limit ≡ self.old.rows.limit }
+        requires { length (keys_of self.old) < 512 }
+        ensures { Given key row.now self.old self.new }
     {
         if let Err(at) = self.find(key) {
-            self.rows.put(at, key, *row);
+            // The memory is there, so neither insertion fails.
+            let _ = self.keys.insert(at, key);
+            let _ = self.rows.insert(at, *row);
         }
     }
 
     // Takes out the key's row, where it has one.
     pub(crate) fn take_out(&mut self, key: u16)
-        ensures taken { Taken key self.old self.new }
-        ensures limit { self.new.rows.limit ≡ self.old.rows.limit }
+        ensures { Taken key self.old self.new }
     {
         if let Ok(at) = self.find(key) {
-            self.rows.take_out(at);
+            self.keys.remove(at);
+            self.rows.remove(at);
         }
     }
 
@@ -62,9 +65,8 @@ impl OrderedRows {
         ensures keys { keys_of self.new ≡ keys_of self.old }
         ensures count { length (rows_of self.new) ≡ length (rows_of self.old) }
         ensures rows { (k : ℕ) (d : Row) → k < length (rows_of self.old) → Put place (C.Condition.admits condition.now (port_at (keys_of self.old) k)) (slice_index_or (rows_of self.old) k d) (slice_index_or (rows_of self.new) k d) }
-        ensures limit { self.new.rows.limit ≡ self.old.rows.limit }
     {
-        self.rows.insert_each(place, condition);
+        put_each(&mut self.rows, &self.keys, place, condition);
     }
 
     // Takes `place` out of each row.
@@ -72,8 +74,19 @@ impl OrderedRows {
         ensures keys { keys_of self.new ≡ keys_of self.old }
         ensures count { length (rows_of self.new) ≡ length (rows_of self.old) }
         ensures rows { (k : ℕ) (d : Row) → k < length (rows_of self.old) → Out place (slice_index_or (rows_of self.old) k d) (slice_index_or (rows_of self.new) k d) }
-        ensures limit { self.new.rows.limit ≡ self.old.rows.limit }
     {
-        self.rows.remove_each(place);
+        table::remove_each(&mut self.rows, place);
+    }
+}
+
+// Puts into each row, at `place`, whether the condition holds on the key beside it.
+fn put_each<C: Condition<Value = Port>>(rows: &mut [Row], keys: &[u16], place: usize, condition: &C)
+    requires { length rows.old ≡ length keys.now }
+    ensures { (k : ℕ) (d : Row) → k < length rows.old → Put place (C.Condition.admits condition.now (port_at keys.now k)) (slice_index_or rows.old k d) (slice_index_or rows.new k d) }
+{
+    // By an index, since proofs know nothing of what is written through `iter_mut().zip(..)`.
+    for (k, key) in keys.iter().enumerate() {
+        let holds = condition.holds_on(Some(Port { number: *key }));
+        rows[k].insert(place, holds);
     }
 }

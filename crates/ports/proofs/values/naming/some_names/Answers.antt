@@ -1,21 +1,17 @@
-use Rattle.std.proofs.Common.{sym, ap, ◌∙◌, arith, below_more}
-use Rattle.std.proofs.lemmas.List.{get_or_default}
+use Rattle.std.proofs.Common.{◌≡◌, Bool, List, [], ◌∷◌, ◌||◌, refl, ap, ◌∙◌, rules, tests}
+use Rattle.std.specs.List.{list_any}
+use Rattle.std.proofs.lemmas.Iterator.{YieldsList-from_slice}
+use Rattle.std.proofs.lemmas.Iterator.Search.{any_from_yields_List}
+use Rattle.columns.specs.Somewhere.{some}
 use Rattle.ports.specs.Ports.{names}
-use Rattle.fields.specs.declared.condition.plain.Plain.TheVariants.{Any}
-use Rattle.columns.proofs.Some.{some_at, some_none}
 use Rattle.ports.proofs.values.naming.some_names.Goals as goal
 
-pub loop-condition-preserved : goal.loop-condition-preserved
-loop-condition-preserved c =
-    below_more _ _ c.loop-condition.invariant
-    (ap (λ x. names x c.args.port) (get_or_default c.args.conditions.now c.loop-condition.condition-index Any _ c.loop-condition-test.true)
-    ∙ sym c.if-names_port.ensures)
-
-pub returns-then-names_port : goal.returns-then-names_port
-returns-then-names_port c =
-    sym (some_at (λ x. names x c.args.port) c.args.conditions.now c.loop-condition.condition-index _
-    c.loop-condition-test.true (sym c.if-names_port.ensures))
+some_is : {X : Type 0} (test : X → Bool) (xs : List X) → list_any test xs ≡ some test xs
+some_is test [] = refl
+some_is test (x ∷ xs) = ap (λ b. test x || b) (some_is test xs)
 
 pub returns : goal.returns
 returns c =
-    sym (some_none (λ x. names x c.args.port) c.args.conditions.now Any (λ i h. c.loop-condition.invariant i (omega arith)))
+    let xs = c.args.conditions.now in
+    any_from_yields_List (λ x. names x c.args.port) _ _ _ c.any.ensures.ran (YieldsList-from_slice xs cc) (λ x b q k. search (rules, tests))
+    ∙ some_is (λ x. names x c.args.port) xs

@@ -37,12 +37,11 @@ invariant_of-self c =
     let ok : is_ok c.insert-2.result ≡ true = c.insert-2.ensures.succeeds (omega arith) in
     let listed : ds ≡ insert cs p x = c.insert-2.ensures.items ∙ cond-true (is_ok c.insert-2.result) _ _ ok in
     let long = c.insert-2.ensures.len ∙ cond-true (is_ok c.insert-2.result) _ _ ok in
-    let told : Told (keys_of t) (rows_of t) cs = ready_told x s.others s.table t cs c.make_ready.ensures.ready s.stored s.untold s.told in record {
+    let told : Told (keys_of t) (rows_of t) cs = ready_told x s.others s.table t cs c.make_ready.ensures s.stored s.untold s.told in record {
       few = omega arith;
       room = omega (arith, c.insert-2.ensures.capacity);
-      limit = omega (arith, c.insert_each.ensures.limit, c.make_ready.ensures.limit);
       stored = (λ v.
-          ap (λ ks. has ks v) c.insert_each.ensures.keys ∙ ready_has x s.others s.table t c.make_ready.ensures.ready v
+          ap (λ ks. has ks v) c.insert_each.ensures.keys ∙ ready_has x s.others s.table t c.make_ready.ensures v
           ∙ ap (λ b. names x v || b) (s.stored v) ∙ sym (some_inserted (λ y. names y v) cs p x) ∙ sym (ap (λ ys. named ys v) listed));
       told = subst (λ (ks : List ℕ). Told ks (rows_of u) ds) (sym c.insert_each.ensures.keys)
           (subst (Told (keys_of t) (rows_of u)) (sym listed)

@@ -26,7 +26,7 @@ invariant_of-self-2 c =
     let accepted = remove_ok c.args.position c.len.result c.in_ok-remove_check.ensures.result in
     let within : p < length cs = omega (arith, accepted.0, accepted.1, c.len.ensures, s.conditions.ok.0) in
     let listed : ds ≡ remove cs p = c.remove-removed.ensures.items in
-    let clean : Cleaned x ds c.remove_each.new.self u = subst (λ (ys : List (Plain Port)). Cleaned x ys t u) c.deref.ensures.value c.clean_up.ensures.clean in
+    let clean : Cleaned x ds c.remove_each.new.self u = subst (λ (ys : List (Plain Port)). Cleaned x ys t u) c.deref.ensures.value c.clean_up.ensures in
     let told : Told (keys_of t) (rows_of t) ds =
     subst (λ (ks : List ℕ). Told ks (rows_of t) ds) (sym c.remove_each.ensures.keys)
     (subst (Told (keys_of s.table) (rows_of t)) (sym listed)
@@ -37,7 +37,6 @@ invariant_of-self-2 c =
     ∙ ap (λ y. names y v || named (remove cs p) v) (sym c.remove-removed.ensures.value) ∙ sym (ap (λ ys. names x v || named ys v) listed) in record {
       few = omega (arith, c.remove-removed.ensures.len);
       room = omega (arith, c.remove-removed.ensures.capacity);
-      limit = omega (arith, c.remove_each.ensures.limit, c.clean_up.ensures.limit);
       stored = clean_has x ds t u clean stored;
       told = clean_told x ds ds t u clean told;
       untold = subst (Shows c.remove.new.self on_any) (sym listed)

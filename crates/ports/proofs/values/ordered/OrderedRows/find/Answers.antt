@@ -9,6 +9,6 @@ use Rattle.std.specs.Ordering.{nat_cmp}
 pub returns : goal.returns
 returns c =
     searched (keys_of c.args.self.now) c.args.key c.binary_search.result
-    (subst (λ (ks : List ℕ). IsBinarySearchResult (λ y. nat_cmp y c.args.key) ks c.binary_search.result) c.keys.ensures
+    (subst (λ (ks : List ℕ). IsBinarySearchResult (λ y. nat_cmp y c.args.key) ks c.binary_search.result) c.deref.ensures.value
     c.binary_search.ensures.position)
     (rising (keys_of c.args.self.now) c.args.self.now.climbs)

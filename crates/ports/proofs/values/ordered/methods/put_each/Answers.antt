@@ -3,11 +3,8 @@ use Rattle.rows.specs.Bits.{put_in}
 use Rattle.rows.specs.Shown.{shown}
 use Rattle.ports.specs.Keys.{port_at}
 use Rattle.rows.specs.Tables.{Put}
-use Rattle.columns.proofs.Tables.{each_none, each_more}
-use Rattle.ports.proofs.values.keyed.methods.put_each.Goals as goal
-
-pub loop-k-init : goal.loop-k-init
-loop-k-init g c = each_none (λ k. Put c.args.place (g.C.Condition.admits c.args.condition.now (port_at c.args.keys.now k))) c.args.rows.now
+use Rattle.columns.proofs.Tables.{each_more}
+use Rattle.ports.proofs.values.ordered.methods.put_each.Goals as goal
 
 pub loop-k-preserved : goal.loop-k-preserved
 loop-k-preserved g c =
@@ -16,6 +13,3 @@ loop-k-preserved g c =
     (λ i. c.insert.ensures i
     ∙ ap (λ b. cond (ltb i 512) (put_in (shown (get_or c.loop-k.rows c.loop-k.k (record { words = [] }))) c.args.place b i) false)
     c.holds_on-holds.ensures.result)
-
-pub returns : goal.returns
-returns g c = λ k d h. c.loop-k.invariant.0 k d (omega arith)
