@@ -87,10 +87,9 @@ impl Row {
 
     // The word behind word k, or zero where that is the last.
     fn word_after(&self, k: usize) -> u64
-        requires { k < 8 }
         ensures { result ≡ slice_index self.now.words (k + 1) }
     {
-        self.words.get(k + 1).copied().unwrap_or(0)
+        if k < WORDS - 1 { self.words[k + 1] } else { 0 }
     }
 
     // Keeps the ones that `other` has too.

@@ -87,8 +87,13 @@ impl Coded for Label {
 
     ghost few = { lit≤ tt };
 
+    // By hand both ways: the labels' own numbers are their weights in a set, which leave gaps.
     fn to_code(self) -> usize {
-        self as usize
+        match self {
+            Label::New => 0,
+            Label::Established => 1,
+            Label::Invalid => 2,
+        }
     }
 
     fn from_code(code: u8) -> Label {
