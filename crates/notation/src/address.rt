@@ -1,36 +1,33 @@
 // Address conditions: `10.1.0.0/16`, or `10.1.2.3` for one address.
-use crate::condition::{Notation, split_sense, unlawful, write_sense};
+use crate::condition::{PatternText, unlawful};
 use crate::number::decimal;
 use fields::condition::plain::Plain;
-use fields::condition::sided::Sided;
+use fields::condition::sided::{Sense, Sided};
 use fields::field::Field;
 use fields::making;
-use fields::making::{AddressCondition, End};
+use fields::making::End;
+use fields::patterns::address::AddressPrefix;
 use fields::refusal::Refusal;
 use fields::values::address::Address;
 use std::fmt;
+use std::net::Ipv4Addr;
 
-// Four numbers from 0 to 255.
+// Four numbers from 0 to 255. Ipv4Addr's own reading refuses leading zeros, which this notation takes.
 pub(crate) fn dotted(text: &str) -> Option<Address> {
-    let mut bits = 0u32;
-    let mut count = 0u32;
-    for part in text.split('.') {
-        let byte = decimal(part, 255)?;
-        bits = bits.wrapping_mul(256).wrapping_add(byte);
-        count = count.saturating_add(1);
+    let mut parts = text.split('.');
+    let mut bytes = [0; 4];
+    for byte in bytes.iter_mut() {
+        *byte = decimal(parts.next()?)?;
     }
-    if count == 4 {
-        Some(Address { bits })
-    } else {
-        None
+    match parts.next() {
+        Some(_) => None,
+        None => Some(Address {
+            bits: u32::from_be_bytes(bytes),
+        }),
     }
 }
 
-pub(crate) fn write_dotted<W: fmt::Write>(bits: u32, f: &mut fmt::Formatter<W>) -> fmt::Result {
-    let [a, b, c, d] = bits.to_be_bytes();
-    write!(f, "{a}.{b}.{c}.{d}")
-}
-
+// A function, and no From: both types are of the crate `fields`.
 fn end_of(field: Field) -> End {
     match field {
         Field::Source => End::Source,
@@ -41,32 +38,19 @@ fn end_of(field: Field) -> End {
 // The address and the length of a prefix.
 fn prefix(text: &str) -> Option<(Address, u32)> {
     match text.split_once('/') {
-        Some((address, length)) => Some((dotted(address)?, decimal(length, u32::MAX)?)),
+        Some((address, length)) => Some((dotted(address)?, decimal(length)?)),
         None => Some((dotted(text)?, 32)),
     }
 }
 
-impl Notation for AddressCondition {
-    fn read(field: Field, text: &str) -> Result<Self, Refusal> {
-        if text == "any" {
-            return Ok(Sided::plain(Plain::Any));
-        }
-        let (sense, wanted) = split_sense(text);
-        match prefix(wanted) {
-            Some((address, length)) => making::address(end_of(field), address.bits, length, sense),
-            None => Err(unlawful(field)),
-        }
+impl PatternText for AddressPrefix {
+    fn read(field: Field, text: &str, sense: Sense) -> Result<Sided<Plain<Self>>, Refusal> {
+        let (address, length) = prefix(text).ok_or(unlawful(field))?;
+        making::address(end_of(field), address.bits, length, sense)
     }
 
     fn write<W: fmt::Write>(&self, f: &mut fmt::Formatter<W>) -> fmt::Result {
-        write_sense(self.is_inverted(), f)?;
-        match self.condition() {
-            Plain::Any => write!(f, "any"),
-            Plain::Is(prefix) => {
-                let length = prefix.length();
-                write_dotted(prefix.bits(), f)?;
-                write!(f, "/{length}")
-            }
-        }
+        let address = Ipv4Addr::from_bits(self.bits());
+        write!(f, "{address}/{}", self.length())
     }
 }

@@ -1,5 +1,7 @@
 // What a condition's text is: `any`, or a pattern, which `!` before it inverts.
-use fields::condition::sided::Sense;
+use fields::condition::Test;
+use fields::condition::plain::Plain;
+use fields::condition::sided::{Sense, Sided};
 use fields::field::Field;
 use fields::refusal::{Part, Reason, Refusal};
 use std::fmt;
@@ -11,7 +13,37 @@ pub trait Notation: Sized {
     fn write<W: fmt::Write>(&self, f: &mut fmt::Formatter<W>) -> fmt::Result;
 }
 
-// A condition, shown in its notation.
+// What a pattern's text is.
+pub trait PatternText: Test {
+    // The condition that the pattern in the text makes.
+    fn read(field: Field, text: &str, sense: Sense) -> Result<Sided<Plain<Self>>, Refusal>;
+
+    fn write<W: fmt::Write>(&self, f: &mut fmt::Formatter<W>) -> fmt::Result;
+}
+
+impl<T: PatternText> Notation for Sided<Plain<T>> {
+    fn read(field: Field, text: &str) -> Result<Self, Refusal> {
+        if text == "any" {
+            return Ok(any());
+        }
+        match text.strip_prefix('!') {
+            Some(pattern) => T::read(field, pattern, Sense::Inverted),
+            None => T::read(field, text, Sense::Plain),
+        }
+    }
+
+    fn write<W: fmt::Write>(&self, f: &mut fmt::Formatter<W>) -> fmt::Result {
+        if self.is_inverted() {
+            write!(f, "!")?;
+        }
+        match self.condition() {
+            Plain::Any => write!(f, "any"),
+            Plain::Is(pattern) => pattern.write(f),
+        }
+    }
+}
+
+// A condition, a field or a label, shown in its notation.
 #[derive(Clone, Copy)]
 pub struct Written<T>(pub T);
 
@@ -21,22 +53,14 @@ impl<T: Notation> fmt::Display for Written<T> {
     }
 }
 
+pub(crate) fn any<T: Test>() -> Sided<Plain<T>> {
+    Sided::plain(Plain::Any)
+}
+
 pub(crate) fn unlawful(field: Field) -> Refusal {
     Refusal {
         reason: Reason::Condition,
         part: Part::Columns,
         place: field.number(),
     }
-}
-
-// What stands behind the `!`, if there is one.
-pub(crate) fn split_sense(text: &str) -> (Sense, &str) {
-    match text.strip_prefix('!') {
-        Some(wanted) => (Sense::Inverted, wanted),
-        None => (Sense::Plain, text),
-    }
-}
-
-pub(crate) fn write_sense<W: fmt::Write>(inverted: bool, f: &mut fmt::Formatter<W>) -> fmt::Result {
-    if inverted { write!(f, "!") } else { Ok(()) }
 }

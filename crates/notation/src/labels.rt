@@ -1,70 +1,48 @@
 // Label conditions: labels between commas, as `new,established`.
-use crate::condition::{Notation, split_sense, unlawful, write_sense};
+use crate::condition::{PatternText, Written, unlawful};
+use crate::names::{read_set, write_set};
 use fields::condition::plain::Plain;
-use fields::condition::sided::Sided;
+use fields::condition::sided::{Sense, Sided};
 use fields::field::Field;
 use fields::making;
-use fields::making::LabelCondition;
+use fields::patterns::label::LabelSet;
 use fields::refusal::Refusal;
 use fields::values::label::Label;
 use std::fmt;
 
 const LABELS: [Label; 3] = [Label::New, Label::Established, Label::Invalid];
 
-pub(crate) fn label(text: &str) -> Option<Label> {
-    match text {
-        "new" => Some(Label::New),
-        "established" => Some(Label::Established),
-        "invalid" => Some(Label::Invalid),
-        _ => None,
-    }
-}
-
-pub(crate) fn write_label<W: fmt::Write>(label: Label, f: &mut fmt::Formatter<W>) -> fmt::Result {
+fn name(label: Label) -> &'static str {
     match label {
-        Label::New => write!(f, "new"),
-        Label::Established => write!(f, "established"),
-        Label::Invalid => write!(f, "invalid"),
+        Label::New => "new",
+        Label::Established => "established",
+        Label::Invalid => "invalid",
     }
 }
 
-fn set(text: &str) -> Option<u8> {
-    let mut members = 0u8;
-    for name in text.split(',') {
-        members |= label(name)?.value();
+impl fmt::Display for Written<Label> {
+    fn fmt<W: fmt::Write>(&self, f: &mut fmt::Formatter<W>) -> fmt::Result {
+        write!(f, "{}", name(self.0))
     }
-    Some(members)
 }
 
-impl Notation for LabelCondition {
-    fn read(field: Field, text: &str) -> Result<Self, Refusal> {
-        if text == "any" {
-            return Ok(Sided::plain(Plain::Any));
-        }
-        let (sense, wanted) = split_sense(text);
-        match set(wanted) {
-            Some(members) => making::labels(members, sense),
-            None => Err(unlawful(field)),
-        }
+// A function, and no FromStr: the type is of the crate `fields`.
+pub(crate) fn label(text: &str) -> Option<Label> {
+    LABELS.into_iter().find(|label| name(*label) == text)
+}
+
+// The names with the labels' weights in a set.
+fn weights() -> [(&'static str, u8); 3] {
+    LABELS.map(|label| (name(label), label.value()))
+}
+
+impl PatternText for LabelSet {
+    fn read(field: Field, text: &str, sense: Sense) -> Result<Sided<Plain<Self>>, Refusal> {
+        let members = read_set(&weights(), text).ok_or(unlawful(field))?;
+        making::labels(members, sense)
     }
 
     fn write<W: fmt::Write>(&self, f: &mut fmt::Formatter<W>) -> fmt::Result {
-        write_sense(self.is_inverted(), f)?;
-        match self.condition() {
-            Plain::Any => write!(f, "any"),
-            Plain::Is(labels) => {
-                let mut comma = false;
-                for label in LABELS {
-                    if labels.members() & label.value() != 0 {
-                        if comma {
-                            write!(f, ",")?;
-                        }
-                        comma = true;
-                        write_label(label, f)?;
-                    }
-                }
-                Ok(())
-            }
-        }
+        write_set(&weights(), self.members(), f)
     }
 }

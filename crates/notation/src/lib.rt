@@ -3,9 +3,11 @@
 
 mod address;
 pub mod condition;
+mod field;
 mod flags;
 mod interface;
 mod labels;
+mod names;
 mod number;
 mod port;
 mod protocol;

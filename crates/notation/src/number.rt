@@ -1,15 +1,12 @@
 // Decimal numbers.
-ghost use Rattle.std.specs.Prelude.{◌≤◌, IfSome};
+use std::num::ParseIntError;
+use std::str::FromStr;
 
-// The number that the text spells in digits alone, if it is at most `most`.
-pub(crate) fn decimal(text: &str, most: u32) -> Option<u32>
-    ensures { IfSome result (λ n. n ≤ most) }
-{
-    for byte in text.bytes() {
-        if byte < b'0' || byte > b'9' {
-            return None;
-        }
+// The number that the text spells in digits alone, if its type has it.
+pub(crate) fn decimal<N: FromStr<Err = ParseIntError>>(text: &str) -> Option<N> {
+    if text.bytes().all(|byte| byte.is_ascii_digit()) {
+        text.parse::<N>().ok()
+    } else {
+        None
     }
-    let number = text.parse::<u32>().ok()?;
-    if number <= most { Some(number) } else { None }
 }

@@ -1,16 +1,16 @@
 // A rule on a line: `accept` or `drop`, and a word for each condition other than any, as `dst=10.1.0.0/16`.
-use crate::condition::{Notation, Written};
+use crate::condition::{Notation, Written, any};
+use crate::field::{FIELDS, field_and_text};
 use fields::condition::Condition;
-use fields::condition::plain::Plain;
-use fields::condition::sided::Sided;
 use fields::field::{Action, Field};
 use fields::making::{
     AddressCondition, FlagsCondition, LabelCondition, NameCondition, PortCondition,
     ProtocolCondition,
 };
 use fields::refusal::Refusal;
-use std::fmt;
+use std::error::Error;
 use std::str::FromStr;
+use std::{fmt, mem};
 
 #[derive(Clone, Copy)]
 pub struct Rule {
@@ -26,7 +26,7 @@ pub struct Rule {
 }
 
 // What is wrong with a rule's line.
-#[derive(Clone, Copy)]
+#[derive(Clone, Copy, PartialEq, Eq, Debug)]
 pub enum RuleFault {
     // the first word is no action
     Action,
@@ -38,34 +38,48 @@ pub enum RuleFault {
     Condition(Field, Refusal),
 }
 
-// The field that a word's beginning names, and the text behind its `=`.
-pub(crate) fn field_and_text(word: &str) -> Option<(Field, &str)> {
-    let (name, text) = word.split_once('=')?;
-    let field = match name {
-        "src" => Field::Source,
-        "dst" => Field::Destination,
-        "proto" => Field::Protocol,
-        "sport" => Field::SourcePort,
-        "dport" => Field::DestinationPort,
-        "flags" => Field::Flags,
-        "label" => Field::Label,
-        "in" => Field::Interface,
-        _ => return None,
-    };
-    Some((field, text))
+impl fmt::Display for RuleFault {
+    fn fmt<W: fmt::Write>(&self, f: &mut fmt::Formatter<W>) -> fmt::Result {
+        match self {
+            RuleFault::Action => write!(f, "a rule begins with accept or drop"),
+            RuleFault::Word => {
+                write!(
+                    f,
+                    "a condition is written FIELD=CONDITION, with FIELD one of"
+                )?;
+                write_fields(f)
+            }
+            RuleFault::Twice(field) => write!(f, "{} has two conditions", Written(*field)),
+            RuleFault::Condition(field, refusal) => {
+                let name = Written(*field);
+                write!(f, "{name} has an unlawful condition ({refusal})")
+            }
+        }
+    }
 }
+
+fn write_fields<W: fmt::Write>(f: &mut fmt::Formatter<W>) -> fmt::Result {
+    let mut before = " ";
+    for field in FIELDS {
+        write!(f, "{before}{}", Written(field))?;
+        before = ", ";
+    }
+    Ok(())
+}
+
+impl Error for RuleFault {}
 
 fn unconditional(action: Action) -> Rule {
     Rule {
         action,
-        source: Sided::plain(Plain::Any),
-        destination: Sided::plain(Plain::Any),
-        protocol: Sided::plain(Plain::Any),
-        source_port: Sided::plain(Plain::Any),
-        destination_port: Sided::plain(Plain::Any),
-        flags: Sided::plain(Plain::Any),
-        label: Sided::plain(Plain::Any),
-        interface: Sided::plain(Plain::Any),
+        source: any(),
+        destination: any(),
+        protocol: any(),
+        source_port: any(),
+        destination_port: any(),
+        flags: any(),
+        label: any(),
+        interface: any(),
     }
 }
 
@@ -88,27 +102,21 @@ impl FromStr for Rule {
     type Err = RuleFault;
 
     fn from_str(line: &str) -> Result<Rule, RuleFault> {
-        let (word, conditions) = match line.split_once(' ') {
-            Some(parts) => parts,
-            None => (line, ""),
-        };
+        let (word, conditions) = line.split_once(' ').unwrap_or((line, ""));
         let mut rule = unconditional(action(word)?);
-        let mut seen = 0u16;
+        let mut stated = [false; FIELDS.len() + 1];
         for word in conditions.split_whitespace() {
             let (field, text) = field_and_text(word).ok_or(RuleFault::Word)?;
-            let mark = weight(field);
-            if seen & mark != 0 {
+            if mem::replace(&mut stated[field.number()], true) {
                 return Err(RuleFault::Twice(field));
             }
-            seen |= mark;
-            if let Err(refusal) = state(&mut rule, field, text) {
-                return Err(RuleFault::Condition(field, refusal));
-            }
+            state(&mut rule, field, text).map_err(|refusal| RuleFault::Condition(field, refusal))?;
         }
         Ok(rule)
     }
 }
 
+// A function, and no FromStr: the type is of the crate `fields`.
 fn action(word: &str) -> Result<Action, RuleFault> {
     match word {
         "accept" => Ok(Action::Accept),
@@ -117,31 +125,16 @@ fn action(word: &str) -> Result<Action, RuleFault> {
     }
 }
 
-// A bit of its own for each field.
-fn weight(field: Field) -> u16 {
-    match field {
-        Field::Source => 1,
-        Field::Destination => 2,
-        Field::Protocol => 4,
-        Field::SourcePort => 8,
-        Field::DestinationPort => 16,
-        Field::Flags => 32,
-        Field::Label => 64,
-        Field::Interface => 128,
-    }
-}
-
 // A condition other than any, behind its field's name.
 fn write_word<C: Condition + Notation, W: fmt::Write>(
-    name: &str,
+    field: Field,
     condition: C,
     f: &mut fmt::Formatter<W>,
 ) -> fmt::Result {
     if condition.is_any() {
         return Ok(());
     }
-    let written = Written(condition);
-    write!(f, " {name}={written}")
+    write!(f, " {}={}", Written(field), Written(condition))
 }
 
 impl fmt::Display for Rule {
@@ -150,13 +143,13 @@ impl fmt::Display for Rule {
             Action::Accept => write!(f, "accept")?,
             Action::Drop => write!(f, "drop")?,
         }
-        write_word("src", self.source, f)?;
-        write_word("dst", self.destination, f)?;
-        write_word("proto", self.protocol, f)?;
-        write_word("sport", self.source_port, f)?;
-        write_word("dport", self.destination_port, f)?;
-        write_word("flags", self.flags, f)?;
-        write_word("label", self.label, f)?;
-        write_word("in", self.interface, f)
+        write_word(Field::Source, self.source, f)?;
+        write_word(Field::Destination, self.destination, f)?;
+        write_word(Field::Protocol, self.protocol, f)?;
+        write_word(Field::SourcePort, self.source_port, f)?;
+        write_word(Field::DestinationPort, self.destination_port, f)?;
+        write_word(Field::Flags, self.flags, f)?;
+        write_word(Field::Label, self.label, f)?;
+        write_word(Field::Interface, self.interface, f)
     }
 }

@@ -1,10 +1,11 @@
 // A field and a value of it, as `dport=443`; `absent` where a packet has none.
 use crate::address::dotted;
+use crate::field::field_and_text;
 use crate::flags::set;
 use crate::interface::bare;
 use crate::labels::label;
-use crate::rule::field_and_text;
-use crate::{port, protocol};
+use crate::number::decimal;
+use crate::protocol;
 use fields::field::Field;
 use fields::values::address::Address;
 use fields::values::flags::Flags;
@@ -12,6 +13,8 @@ use fields::values::label::Label;
 use fields::values::name::InterfaceName;
 use fields::values::port::Port;
 use fields::values::protocol::Protocol;
+use std::error::Error;
+use std::fmt;
 use std::str::FromStr;
 
 #[derive(Clone, Copy)]
@@ -27,54 +30,43 @@ pub enum FieldValue {
 }
 
 // A text that names no field, or no value that its field can have.
-#[derive(Clone, Copy, Debug)]
+#[derive(Clone, Copy, PartialEq, Eq, Debug)]
 pub struct NoValue;
 
-fn address(text: &str) -> Result<Option<Address>, NoValue> {
-    if text == "absent" {
-        return Ok(None);
+impl fmt::Display for NoValue {
+    fn fmt<W: fmt::Write>(&self, f: &mut fmt::Formatter<W>) -> fmt::Result {
+        write!(f, "no value of a field")
     }
-    Ok(Some(dotted(text).ok_or(NoValue)?))
 }
 
-fn protocol_of(text: &str) -> Result<Option<Protocol>, NoValue> {
-    if text == "absent" {
-        return Ok(None);
-    }
-    let number = protocol::number(text).ok_or(NoValue)?;
-    Ok(Some(Protocol { number }))
+impl Error for NoValue {}
+
+fn protocol_of(text: &str) -> Option<Protocol> {
+    let number = protocol::number(text)?;
+    Some(Protocol { number })
 }
 
-fn port_of(text: &str) -> Result<Option<Port>, NoValue> {
-    if text == "absent" {
-        return Ok(None);
-    }
-    let number = port::number(text).ok_or(NoValue)?;
-    Ok(Some(Port { number }))
+fn port_of(text: &str) -> Option<Port> {
+    let number = decimal(text)?;
+    Some(Port { number })
 }
 
-fn flags_of(text: &str) -> Result<Option<Flags>, NoValue> {
-    if text == "absent" {
-        return Ok(None);
-    }
-    Ok(Some(Flags::of(set(text).ok_or(NoValue)?)))
+fn flags_of(text: &str) -> Option<Flags> {
+    Some(Flags::of(set(text)?))
 }
 
-fn label_of(text: &str) -> Result<Option<Label>, NoValue> {
-    if text == "absent" {
-        return Ok(None);
-    }
-    Ok(Some(label(text).ok_or(NoValue)?))
+fn interface_of(text: &str) -> Option<InterfaceName> {
+    InterfaceName::new(bare(text).as_bytes()).ok()
 }
 
-fn interface_of(text: &str) -> Result<Option<InterfaceName>, NoValue> {
+// None for `absent`, and else the value that is read from the text.
+fn or_absent<V, F: FnOnce(&str) -> Option<V>>(text: &str, read: F) -> Result<Option<V>, NoValue>
+    requires { F.IsAlwaysCallable read }
+{
     if text == "absent" {
         return Ok(None);
     }
-    match InterfaceName::new(bare(text).as_bytes()) {
-        Ok(name) => Ok(Some(name)),
-        Err(_) => Err(NoValue),
-    }
+    Ok(Some(read(text).ok_or(NoValue)?))
 }
 
 impl FromStr for FieldValue {
@@ -82,15 +74,16 @@ impl FromStr for FieldValue {
 
     fn from_str(word: &str) -> Result<FieldValue, NoValue> {
         let (field, text) = field_and_text(word).ok_or(NoValue)?;
-        match field {
-            Field::Source => Ok(FieldValue::Source(address(text)?)),
-            Field::Destination => Ok(FieldValue::Destination(address(text)?)),
-            Field::Protocol => Ok(FieldValue::Protocol(protocol_of(text)?)),
-            Field::SourcePort => Ok(FieldValue::SourcePort(port_of(text)?)),
-            Field::DestinationPort => Ok(FieldValue::DestinationPort(port_of(text)?)),
-            Field::Flags => Ok(FieldValue::Flags(flags_of(text)?)),
-            Field::Label => Ok(FieldValue::Label(label_of(text)?)),
-            Field::Interface => Ok(FieldValue::Interface(interface_of(text)?)),
-        }
+        let value = match field {
+            Field::Source => FieldValue::Source(or_absent(text, dotted)?),
+            Field::Destination => FieldValue::Destination(or_absent(text, dotted)?),
+            Field::Protocol => FieldValue::Protocol(or_absent(text, protocol_of)?),
+            Field::SourcePort => FieldValue::SourcePort(or_absent(text, port_of)?),
+            Field::DestinationPort => FieldValue::DestinationPort(or_absent(text, port_of)?),
+            Field::Flags => FieldValue::Flags(or_absent(text, flags_of)?),
+            Field::Label => FieldValue::Label(or_absent(text, label)?),
+            Field::Interface => FieldValue::Interface(or_absent(text, interface_of)?),
+        };
+        Ok(value)
     }
 }

@@ -6,24 +6,18 @@ use fields::making::{
     AddressCondition, FlagsCondition, LabelCondition, NameCondition, PortCondition,
     ProtocolCondition,
 };
-use fields::refusal::{Part, Refusal};
+use fields::refusal::Refusal;
 use notation::condition::{Notation, Written};
 use notation::rule::{Rule, RuleFault};
 use std::str::FromStr;
 
-fn part_name(part: Part) -> &'static str {
-    match part {
-        Part::Columns => "columns",
-        Part::Reader => "reader",
-        Part::Filter => "filter",
-    }
-}
-
 fn print_refusal(rt: &HostRuntime, text: &str, refusal: Refusal) -> anyhow::Result<()> {
-    let number = refusal.reason.number();
-    let part = part_name(refusal.part);
-    let place = refusal.place;
-    println!(rt; "{text} -> refused {number} {part} {place}")?;
+    let Refusal {
+        reason,
+        part,
+        place,
+    } = refusal;
+    println!(rt; "{text} -> refused {} {part} {place}", reason.number())?;
     Ok(())
 }
 
@@ -155,13 +149,13 @@ fn names(rt: &HostRuntime) -> anyhow::Result<()> {
     Ok(())
 }
 
+// In short words of its own: what the fault's Display says of a line would hide the cases here.
 fn print_fault(rt: &HostRuntime, text: &str, fault: RuleFault) -> anyhow::Result<()> {
     match fault {
         RuleFault::Action => println!(rt; "{text} -> no action")?,
         RuleFault::Word => println!(rt; "{text} -> no condition")?,
         RuleFault::Twice(field) => {
-            let number = field.number();
-            println!(rt; "{text} -> two conditions on field {number}")?
+            println!(rt; "{text} -> two conditions on field {}", field.number())?
         }
         RuleFault::Condition(_, refusal) => print_refusal(rt, text, refusal)?,
     }
