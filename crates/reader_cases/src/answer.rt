@@ -1,56 +1,54 @@
 // What the reader says of a packet.
 use fields::refusal::Refusal;
-use fields::values::address::Address;
 use reader::packet::Packet;
 use reader::part::Part;
 use reader::values::Fields;
 use std::io;
+use std::net::Ipv4Addr;
 
 fn part(rt: &HostRuntime, title: &str, part: Part<'_>) -> io::Result<()> {
-    let place = part.place;
-    let length = part.bytes.len();
-    print!(rt; "  {title} {length} bytes at {place}:")?;
+    print!(rt; "  {title} {} bytes at {}:", part.bytes.len(), part.place)?;
     for byte in part.bytes {
-        let b = *byte;
-        print!(rt; " {b:02x}")?;
+        print!(rt; " {byte:02x}")?;
     }
     println!(rt; "")
 }
 
-fn address(rt: &HostRuntime, title: &str, address: Address) -> io::Result<()> {
-    let [a, b, c, d] = address.bits.to_be_bytes();
-    println!(rt; "  {title} {a}.{b}.{c}.{d}")
-}
-
 fn fields(rt: &HostRuntime, fields: &Fields) -> io::Result<()> {
-    address(rt, "source", fields.source)?;
-    address(rt, "destination", fields.destination)?;
+    let source = Ipv4Addr::from_bits(fields.source.bits);
+    println!(rt; "  source {source}")?;
+    let destination = Ipv4Addr::from_bits(fields.destination.bits);
+    println!(rt; "  destination {destination}")?;
     let protocol = fields.protocol.number;
-    let offset = fields.offset;
-    let later = fields.later;
-    println!(rt; "  protocol {protocol}, offset {offset}, later {later}")?;
+    println!(rt;
+        "  protocol {protocol}, offset {}, later {}",
+        fields.offset, fields.later
+    )?;
     if let Some(ports) = fields.ports {
-        let source = ports.source.number;
-        let destination = ports.destination.number;
-        println!(rt; "  ports {source} to {destination}")?;
+        println!(rt;
+            "  ports {} to {}",
+            ports.source.number, ports.destination.number
+        )?;
     }
     if let Some(flags) = fields.flags() {
-        let bits = flags.bits();
-        println!(rt; "  flags {bits}")?;
+        println!(rt; "  flags {}", flags.bits())?;
     }
     if let Some(echo) = fields.echo {
-        let kind = echo.kind;
-        let identifier = echo.identifier;
-        println!(rt; "  echo {kind:?}, identifier {identifier}")?;
+        println!(rt; "  echo {:?}, identifier {}", echo.kind, echo.identifier)?;
     }
     Ok(())
 }
 
 pub(crate) fn refusal(rt: &HostRuntime, title: &str, refusal: Refusal) -> io::Result<()> {
-    let number = refusal.reason.number();
-    let part = refusal.part;
-    let place = refusal.place;
-    println!(rt; "{title}: refusal {number}, {part:?}, place {place}")
+    let Refusal {
+        reason,
+        part,
+        place,
+    } = refusal;
+    println!(rt;
+        "{title}: refusal {}, {part:?}, place {place}",
+        reason.number()
+    )
 }
 
 pub(crate) fn answer(rt: &HostRuntime, title: &str, bytes: &[u8]) -> io::Result<()> {

@@ -5,10 +5,7 @@ use std::io;
 
 pub(crate) fn name_answer(rt: &HostRuntime, title: &str, bytes: &[u8]) -> io::Result<()> {
     match InterfaceName::new(bytes) {
-        Ok(name) => {
-            let length = name.as_slice().len();
-            println!(rt; "{title}: {length} bytes")
-        }
+        Ok(name) => println!(rt; "{title}: {} bytes", name.as_slice().len()),
         Err(found) => refusal(rt, title, found),
     }
 }
