@@ -1,5 +1,5 @@
 // Each row of the table, from both sides.
-use crate::packets::{back, client, there};
+use crate::packets::{back, there, to_self};
 use book::{Book, Kind, Passage};
 use fields::values::flags::{ACK, FIN, PSH, RST, SYN, URG};
 use std::io;
@@ -26,184 +26,157 @@ fn say(rt: &impl Print, book: &Book, what: &str, passage: &Passage, clock: u32) 
     println!(rt; "  {clock} {what}: {label:?}")
 }
 
-pub fn tcp(rt: &HostRuntime) -> io::Result<()> {
-    println!(rt; "TCP, from opened to answered")?;
+// Shows each step in a new book.
+fn trial(rt: &HostRuntime, title: &str, steps: &[(&str, Passage, u32)]) -> io::Result<()> {
+    println!(rt; "{title}")?;
     let mut book = Book::new(rt.alloc(), SEED)?;
-    show(rt, &mut book, "SYN there", &there(Kind::Tcp(SYN)), 0)?;
-    show(rt, &mut book, "SYN there", &there(Kind::Tcp(SYN)), 119)?;
-    show(rt, &mut book, "FIN there", &there(Kind::Tcp(FIN)), 238)?;
-    show(rt, &mut book, "ACK there", &there(Kind::Tcp(ACK)), 357)?;
-    show(
+    for (what, passage, clock) in steps {
+        show(rt, &mut book, what, passage, *clock)?;
+    }
+    Ok(())
+}
+
+pub fn tcp(rt: &HostRuntime) -> io::Result<()> {
+    trial(
         rt,
-        &mut book,
-        "SYN ACK back",
-        &back(Kind::Tcp(SYN + ACK)),
-        476,
-    )?;
-    show(rt, &mut book, "ACK there", &there(Kind::Tcp(ACK)), 432_475)?;
-    show(rt, &mut book, "ACK back", &back(Kind::Tcp(ACK)), 864_474)?;
-    show(rt, &mut book, "ACK back", &back(Kind::Tcp(ACK)), 1_296_474)
+        "TCP, from opened to answered",
+        &[
+            ("SYN there", there(Kind::Tcp(SYN)), 0),
+            ("SYN there", there(Kind::Tcp(SYN)), 119),
+            ("FIN there", there(Kind::Tcp(FIN)), 238),
+            ("ACK there", there(Kind::Tcp(ACK)), 357),
+            ("SYN ACK back", back(Kind::Tcp(SYN + ACK)), 476),
+            ("ACK there", there(Kind::Tcp(ACK)), 432_475),
+            ("ACK back", back(Kind::Tcp(ACK)), 864_474),
+            ("ACK back", back(Kind::Tcp(ACK)), 1_296_474),
+        ],
+    )
 }
 
 pub fn tcp_closing(rt: &HostRuntime) -> io::Result<()> {
-    println!(rt; "TCP, closing")?;
-    let mut book = Book::new(rt.alloc(), SEED)?;
-    show(rt, &mut book, "SYN there", &there(Kind::Tcp(SYN)), 0)?;
-    show(
+    trial(
         rt,
-        &mut book,
-        "SYN ACK back",
-        &back(Kind::Tcp(SYN + ACK)),
-        1,
-    )?;
-    show(rt, &mut book, "FIN there", &there(Kind::Tcp(FIN)), 2)?;
-    show(rt, &mut book, "ACK back", &back(Kind::Tcp(ACK)), 121)?;
-    show(rt, &mut book, "ACK there", &there(Kind::Tcp(ACK)), 240)?;
-    show(rt, &mut book, "FIN back", &back(Kind::Tcp(FIN)), 359)?;
-    show(rt, &mut book, "ACK there", &there(Kind::Tcp(ACK)), 479)?;
-    show(rt, &mut book, "SYN there", &there(Kind::Tcp(SYN)), 480)?;
-    show(rt, &mut book, "FIN back", &back(Kind::Tcp(FIN)), 481)?;
-    show(rt, &mut book, "ACK there", &there(Kind::Tcp(ACK)), 600)?;
-    show(rt, &mut book, "ACK there", &there(Kind::Tcp(ACK)), 720)
+        "TCP, closing",
+        &[
+            ("SYN there", there(Kind::Tcp(SYN)), 0),
+            ("SYN ACK back", back(Kind::Tcp(SYN + ACK)), 1),
+            ("FIN there", there(Kind::Tcp(FIN)), 2),
+            ("ACK back", back(Kind::Tcp(ACK)), 121),
+            ("ACK there", there(Kind::Tcp(ACK)), 240),
+            ("FIN back", back(Kind::Tcp(FIN)), 359),
+            ("ACK there", there(Kind::Tcp(ACK)), 479),
+            ("SYN there", there(Kind::Tcp(SYN)), 480),
+            ("FIN back", back(Kind::Tcp(FIN)), 481),
+            ("ACK there", there(Kind::Tcp(ACK)), 600),
+            ("ACK there", there(Kind::Tcp(ACK)), 720),
+        ],
+    )
 }
 
 pub fn tcp_reset(rt: &HostRuntime) -> io::Result<()> {
-    println!(rt; "TCP, reset")?;
-    let mut book = Book::new(rt.alloc(), SEED)?;
-    show(rt, &mut book, "SYN there", &there(Kind::Tcp(SYN)), 0)?;
-    show(rt, &mut book, "RST there", &there(Kind::Tcp(RST)), 1)?;
-    show(rt, &mut book, "SYN there", &there(Kind::Tcp(SYN)), 2)?;
-    show(
+    trial(
         rt,
-        &mut book,
-        "RST ACK back",
-        &back(Kind::Tcp(RST + ACK)),
-        3,
-    )?;
-    show(rt, &mut book, "SYN back", &back(Kind::Tcp(SYN)), 4)?;
-    show(
-        rt,
-        &mut book,
-        "SYN ACK there",
-        &there(Kind::Tcp(SYN + ACK)),
-        5,
-    )?;
-    show(
-        rt,
-        &mut book,
-        "RST FIN there",
-        &there(Kind::Tcp(RST + FIN)),
-        6,
-    )?;
-    show(rt, &mut book, "SYN there", &there(Kind::Tcp(SYN)), 7)?;
-    show(rt, &mut book, "FIN back", &back(Kind::Tcp(FIN)), 8)?;
-    show(rt, &mut book, "RST there", &there(Kind::Tcp(RST)), 9)?;
-    show(rt, &mut book, "RST there", &there(Kind::Tcp(RST)), 10)
+        "TCP, reset",
+        &[
+            ("SYN there", there(Kind::Tcp(SYN)), 0),
+            ("RST there", there(Kind::Tcp(RST)), 1),
+            ("SYN there", there(Kind::Tcp(SYN)), 2),
+            ("RST ACK back", back(Kind::Tcp(RST + ACK)), 3),
+            ("SYN back", back(Kind::Tcp(SYN)), 4),
+            ("SYN ACK there", there(Kind::Tcp(SYN + ACK)), 5),
+            ("RST FIN there", there(Kind::Tcp(RST + FIN)), 6),
+            ("SYN there", there(Kind::Tcp(SYN)), 7),
+            ("FIN back", back(Kind::Tcp(FIN)), 8),
+            ("RST there", there(Kind::Tcp(RST)), 9),
+            ("RST there", there(Kind::Tcp(RST)), 10),
+        ],
+    )
 }
 
 pub fn tcp_opening(rt: &HostRuntime) -> io::Result<()> {
-    println!(rt; "TCP, what opens")?;
-    let mut book = Book::new(rt.alloc(), SEED)?;
-    show(rt, &mut book, "no flag", &there(Kind::Tcp(0)), 0)?;
-    show(rt, &mut book, "ACK", &there(Kind::Tcp(ACK)), 0)?;
-    show(rt, &mut book, "FIN", &there(Kind::Tcp(FIN)), 0)?;
-    show(rt, &mut book, "SYN ACK", &there(Kind::Tcp(SYN + ACK)), 0)?;
-    show(rt, &mut book, "SYN FIN", &there(Kind::Tcp(SYN + FIN)), 0)?;
-    show(rt, &mut book, "SYN RST", &there(Kind::Tcp(SYN + RST)), 0)?;
-    show(
+    trial(
         rt,
-        &mut book,
-        "SYN PSH URG",
-        &there(Kind::Tcp(SYN + PSH + URG)),
-        0,
+        "TCP, what opens",
+        &[
+            ("no flag", there(Kind::Tcp(0)), 0),
+            ("ACK", there(Kind::Tcp(ACK)), 0),
+            ("FIN", there(Kind::Tcp(FIN)), 0),
+            ("SYN ACK", there(Kind::Tcp(SYN + ACK)), 0),
+            ("SYN FIN", there(Kind::Tcp(SYN + FIN)), 0),
+            ("SYN RST", there(Kind::Tcp(SYN + RST)), 0),
+            ("SYN PSH URG", there(Kind::Tcp(SYN + PSH + URG)), 0),
+        ],
     )
 }
 
 pub fn udp(rt: &HostRuntime) -> io::Result<()> {
-    println!(rt; "UDP")?;
-    let mut book = Book::new(rt.alloc(), SEED)?;
-    show(rt, &mut book, "there", &there(Kind::Udp), 0)?;
-    show(rt, &mut book, "there", &there(Kind::Udp), 29)?;
-    show(rt, &mut book, "there", &there(Kind::Udp), 59)?;
-    show(rt, &mut book, "back", &back(Kind::Udp), 88)?;
-    show(rt, &mut book, "there", &there(Kind::Udp), 267)?;
-    show(rt, &mut book, "back", &back(Kind::Udp), 446)?;
-    show(rt, &mut book, "back", &back(Kind::Udp), 626)?;
-    show(rt, &mut book, "there", &there(Kind::Udp), 627)
+    trial(
+        rt,
+        "UDP",
+        &[
+            ("there", there(Kind::Udp), 0),
+            ("there", there(Kind::Udp), 29),
+            ("there", there(Kind::Udp), 59),
+            ("back", back(Kind::Udp), 88),
+            ("there", there(Kind::Udp), 267),
+            ("back", back(Kind::Udp), 446),
+            ("back", back(Kind::Udp), 626),
+            ("there", there(Kind::Udp), 627),
+        ],
+    )
 }
 
 pub fn echo(rt: &HostRuntime) -> io::Result<()> {
-    println!(rt; "Echo, and a pair that crosses")?;
-    let mut book = Book::new(rt.alloc(), SEED)?;
-    show(rt, &mut book, "reply back", &back(Kind::EchoReply), 0)?;
-    show(rt, &mut book, "request there", &there(Kind::EchoRequest), 0)?;
-    show(
+    trial(
         rt,
-        &mut book,
-        "request there",
-        &there(Kind::EchoRequest),
-        29,
-    )?;
-    show(rt, &mut book, "reply there", &there(Kind::EchoReply), 30)?;
-    show(rt, &mut book, "reply back", &back(Kind::EchoReply), 58)?;
-    show(rt, &mut book, "request back", &back(Kind::EchoRequest), 60)?;
-    show(rt, &mut book, "reply there", &there(Kind::EchoReply), 61)?;
-    show(
-        rt,
-        &mut book,
-        "request there",
-        &there(Kind::EchoRequest),
-        87,
-    )?;
-    show(rt, &mut book, "reply there", &there(Kind::EchoReply), 91)?;
-    show(rt, &mut book, "reply back", &back(Kind::EchoReply), 116)?;
-    show(rt, &mut book, "reply back", &back(Kind::EchoReply), 146)
+        "Echo, and a pair that crosses",
+        &[
+            ("reply back", back(Kind::EchoReply), 0),
+            ("request there", there(Kind::EchoRequest), 0),
+            ("request there", there(Kind::EchoRequest), 29),
+            ("reply there", there(Kind::EchoReply), 30),
+            ("reply back", back(Kind::EchoReply), 58),
+            ("request back", back(Kind::EchoRequest), 60),
+            ("reply there", there(Kind::EchoReply), 61),
+            ("request there", there(Kind::EchoRequest), 87),
+            ("reply there", there(Kind::EchoReply), 91),
+            ("reply back", back(Kind::EchoReply), 116),
+            ("reply back", back(Kind::EchoReply), 146),
+        ],
+    )
 }
 
 // A packet from an end to itself fits its entry from the opener.
 pub fn equal_ends(rt: &HostRuntime) -> io::Result<()> {
-    println!(rt; "Both ends equal")?;
-    let mut book = Book::new(rt.alloc(), SEED)?;
-    let to_self = Passage {
-        kind: Kind::Udp,
-        source: client(),
-        destination: client(),
-    };
-    show(rt, &mut book, "UDP", &to_self, 0)?;
-    show(rt, &mut book, "UDP", &to_self, 29)?;
-    let reply = Passage {
-        kind: Kind::EchoReply,
-        source: client(),
-        destination: client(),
-    };
-    let request = Passage {
-        kind: Kind::EchoRequest,
-        source: client(),
-        destination: client(),
-    };
-    show(rt, &mut book, "request", &request, 30)?;
-    show(rt, &mut book, "reply", &reply, 31)?;
-    show(rt, &mut book, "request", &request, 32)
+    trial(
+        rt,
+        "Both ends equal",
+        &[
+            ("UDP", to_self(Kind::Udp), 0),
+            ("UDP", to_self(Kind::Udp), 29),
+            ("request", to_self(Kind::EchoRequest), 30),
+            ("reply", to_self(Kind::EchoReply), 31),
+            ("request", to_self(Kind::EchoRequest), 32),
+        ],
+    )
 }
 
 // What has no connection, and protocols that do not meet.
 pub fn unconnected(rt: &HostRuntime) -> io::Result<()> {
-    println!(rt; "Unconnected packets, and other protocols between the same ends")?;
-    let mut book = Book::new(rt.alloc(), SEED)?;
-    show(rt, &mut book, "unconnected", &there(Kind::Unconnected), 0)?;
-    show(rt, &mut book, "request there", &there(Kind::EchoRequest), 0)?;
-    show(rt, &mut book, "unconnected", &there(Kind::Unconnected), 0)?;
-    show(
+    trial(
         rt,
-        &mut book,
-        "unconnected back",
-        &back(Kind::Unconnected),
-        0,
-    )?;
-    show(rt, &mut book, "UDP there", &there(Kind::Udp), 0)?;
-    show(rt, &mut book, "ACK there", &there(Kind::Tcp(ACK)), 0)?;
-    show(rt, &mut book, "UDP back", &back(Kind::Udp), 0)?;
-    show(rt, &mut book, "reply back", &back(Kind::EchoReply), 0)
+        "Unconnected packets, and other protocols between the same ends",
+        &[
+            ("unconnected", there(Kind::Unconnected), 0),
+            ("request there", there(Kind::EchoRequest), 0),
+            ("unconnected", there(Kind::Unconnected), 0),
+            ("unconnected back", back(Kind::Unconnected), 0),
+            ("UDP there", there(Kind::Udp), 0),
+            ("ACK there", there(Kind::Tcp(ACK)), 0),
+            ("UDP back", back(Kind::Udp), 0),
+            ("reply back", back(Kind::EchoReply), 0),
+        ],
+    )
 }
 
 // Live while the clock is below the deadline, and up to the end of the clock.

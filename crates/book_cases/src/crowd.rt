@@ -15,14 +15,11 @@ fn nth(n: u16, flags: u8) -> Passage {
 }
 
 // How many of the clients from `first` to `last` could open a connection.
-fn open(book: &mut Book, first: u16, last: u16, clock: u32) -> u32 {
-    let mut created: u32 = 0;
-    for n in first..last {
-        if book.step(&nth(n, SYN), clock) == Answer::Created {
-            created = created.wrapping_add(1);
-        }
-    }
-    created
+fn open(book: &mut Book, first: u16, last: u16, clock: u32) -> usize {
+    (first..last)
+        .map(|n| book.step(&nth(n, SYN), clock))
+        .filter(|answer| *answer == Answer::Created)
+        .count()
 }
 
 pub fn crowd(rt: &HostRuntime) -> io::Result<()> {

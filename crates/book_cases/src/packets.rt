@@ -37,3 +37,12 @@ pub fn back(kind: Kind) -> Passage {
         destination: client(),
     }
 }
+
+// From the client to itself.
+pub fn to_self(kind: Kind) -> Passage {
+    Passage {
+        kind,
+        source: client(),
+        destination: client(),
+    }
+}

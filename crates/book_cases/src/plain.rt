@@ -4,15 +4,47 @@ use fields::values::flags::{ACK, FIN, RST, SYN};
 use fields::values::label::Label;
 use std::alloc::{AllocError, Global};
 
-// The ends as one number each, and the protocol as in the IPv4 header.
-#[derive(Clone, Copy)]
-struct Line {
-    protocol: u8,
+#[derive(Clone, Copy, PartialEq, Eq)]
+enum Protocol {
+    Tcp,
+    Udp,
+    Echo,
+}
+
+// The ends as one number each.
+#[derive(Clone, Copy, PartialEq, Eq)]
+struct Connection {
+    protocol: Protocol,
     opener: u64,
     other: u64,
-    answered: bool,
-    closing: bool,
+}
+
+// How far a connection is.
+#[derive(Clone, Copy)]
+enum Stage {
+    Fresh,
+    Answered,
+    Closing,
+}
+
+#[derive(Clone, Copy)]
+struct Line {
+    connection: Connection,
+    stage: Stage,
     deadline: u64,
+}
+
+#[derive(Clone, Copy)]
+enum Side {
+    Opener,
+    Other,
+}
+
+// The line that a packet fits, and the side that it came from.
+#[derive(Clone, Copy)]
+struct Fit {
+    line: Line,
+    side: Side,
 }
 
 #[derive(Drop)]
@@ -21,21 +53,46 @@ pub struct Plain {
 }
 
 // What the book says of a packet and what its step answers.
-#[derive(Clone, Copy)]
+#[derive(Clone, Copy, PartialEq, Eq)]
 pub struct Judged {
     pub label: Label,
     pub answer: Answer,
 }
 
+// A function, and no From: neither type is of this crate.
 fn number(end: End) -> u64 {
     u64::from(end.address.bits) * 65_536 + u64::from(end.port)
 }
 
-fn protocol(kind: Kind) -> u8 {
-    match kind {
-        Kind::Tcp(_) => 6,
-        Kind::Udp => 17,
-        _ => 1,
+impl From<Kind> for Protocol {
+    // Nothing unconnected is looked up or opened, so it does not matter what stands for it.
+    fn from(kind: Kind) -> Protocol {
+        match kind {
+            Kind::Tcp(_) => Protocol::Tcp,
+            Kind::Udp => Protocol::Udp,
+            Kind::EchoRequest | Kind::EchoReply | Kind::Unconnected => Protocol::Echo,
+        }
+    }
+}
+
+impl From<&Passage> for Connection {
+    // The connection of which the packet's source is the opener.
+    fn from(passage: &Passage) -> Connection {
+        Connection {
+            protocol: Protocol::from(passage.kind),
+            opener: number(passage.source),
+            other: number(passage.destination),
+        }
+    }
+}
+
+impl Connection {
+    fn turned(self) -> Connection {
+        Connection {
+            opener: self.other,
+            other: self.opener,
+            ..self
+        }
     }
 }
 
@@ -50,24 +107,43 @@ fn opens(kind: Kind) -> bool {
     match kind {
         Kind::Tcp(flags) => flags & (SYN + ACK + FIN + RST) == SYN,
         Kind::Udp | Kind::EchoRequest => true,
-        _ => false,
+        Kind::EchoReply | Kind::Unconnected => false,
     }
 }
 
-fn lifetime(line: &Line) -> u32 {
-    if line.protocol == 1 {
-        30
-    } else if line.protocol == 17 {
-        if line.answered { 180 } else { 30 }
-    } else if line.answered && !line.closing {
-        432_000
-    } else {
-        120
+fn lifetime(protocol: Protocol, stage: Stage) -> u32 {
+    match (protocol, stage) {
+        (Protocol::Echo, _) | (Protocol::Udp, Stage::Fresh) => 30,
+        (Protocol::Udp, _) => 180,
+        (Protocol::Tcp, Stage::Answered) => 432_000,
+        (Protocol::Tcp, _) => 120,
     }
 }
 
-fn is(line: &Line, protocol: u8, opener: u64, other: u64) -> bool {
-    line.protocol == protocol && line.opener == opener && line.other == other
+impl Fit {
+    // Whether the opener speaks again before it has an answer.
+    fn is_again(&self) -> bool {
+        matches!((self.line.stage, self.side), (Stage::Fresh, Side::Opener))
+    }
+
+    fn label(&self) -> Label {
+        if self.is_again() {
+            Label::New
+        } else {
+            Label::Established
+        }
+    }
+
+    // The stage after a packet with these flags.
+    fn next_stage(&self, flags: u8) -> Stage {
+        if self.is_again() {
+            return Stage::Fresh;
+        }
+        match self.line.stage {
+            Stage::Fresh | Stage::Answered if flags & FIN == 0 => Stage::Answered,
+            _ => Stage::Closing,
+        }
+    }
 }
 
 impl Plain {
@@ -77,82 +153,54 @@ impl Plain {
         }
     }
 
-    fn forget_dead(&mut self, clock: u32) {
-        let mut i = 0;
-        while i < self.lines.len() {
-            if self.lines[i].deadline <= u64::from(clock) {
-                let _ = self.lines.swap_remove(i);
-            } else {
-                i += 1;
-            }
-        }
+    fn find(&self, connection: Connection) -> Option<Line> {
+        self.lines
+            .iter()
+            .find(|line| line.connection == connection)
+            .copied()
     }
 
-    fn remove(&mut self, protocol: u8, opener: u64, other: u64) {
-        let mut i = 0;
-        while i < self.lines.len() {
-            if is(&self.lines[i], protocol, opener, other) {
-                let _ = self.lines.swap_remove(i);
-            } else {
-                i += 1;
-            }
-        }
-    }
-
-    fn find(&self, protocol: u8, opener: u64, other: u64) -> Option<Line> {
-        for line in self.lines.iter() {
-            if is(line, protocol, opener, other) {
-                return Some(*line);
-            }
-        }
-        None
-    }
-
-    // The line that the packet fits, and whether it came from the opener.
-    fn fit(&self, passage: &Passage) -> Option<(Line, bool)> {
-        let source = number(passage.source);
-        let destination = number(passage.destination);
-        let from_opener = self.find(protocol(passage.kind), source, destination);
-        let from_other = self.find(protocol(passage.kind), destination, source);
-        match (passage.kind, from_opener, from_other) {
-            (Kind::Unconnected, _, _) => None,
-            (Kind::EchoRequest, Some(line), _) => Some((line, true)),
-            (Kind::EchoRequest, _, _) => None,
-            (Kind::EchoReply, _, Some(line)) => Some((line, false)),
-            (Kind::EchoReply, _, _) => None,
-            (_, Some(line), _) => Some((line, true)),
-            (_, _, Some(line)) => Some((line, false)),
-            _ => None,
+    fn fit(&self, passage: &Passage) -> Option<Fit> {
+        let connection = Connection::from(passage);
+        let from_opener = self.find(connection).map(|line| Fit {
+            line,
+            side: Side::Opener,
+        });
+        let from_other = self.find(connection.turned()).map(|line| Fit {
+            line,
+            side: Side::Other,
+        });
+        match passage.kind {
+            Kind::Unconnected => None,
+            Kind::EchoRequest => from_opener,
+            Kind::EchoReply => from_other,
+            Kind::Tcp(_) | Kind::Udp => from_opener.or(from_other),
         }
     }
 
     // Writes a line that lives from the clock on.
-    fn write(&mut self, mut line: Line, clock: u32) -> Result<(), AllocError> {
-        line.deadline = u64::from(clock) + u64::from(lifetime(&line));
-        self.lines.push(line)?;
+    fn write(
+        &mut self,
+        connection: Connection,
+        stage: Stage,
+        clock: u32,
+    ) -> Result<(), AllocError> {
+        let deadline = u64::from(clock) + u64::from(lifetime(connection.protocol, stage));
+        self.lines.push(Line {
+            connection,
+            stage,
+            deadline,
+        })?;
         Ok(())
     }
 
-    fn renew(
-        &mut self,
-        line: Line,
-        from_opener: bool,
-        flags: u8,
-        clock: u32,
-    ) -> Result<Answer, AllocError> {
-        self.remove(line.protocol, line.opener, line.other);
+    fn renew(&mut self, fit: &Fit, flags: u8, clock: u32) -> Result<Answer, AllocError> {
+        let connection = fit.line.connection;
+        self.lines.retain(|line| line.connection != connection);
         if flags & RST != 0 {
             return Ok(Answer::Erased);
         }
-        let fresh = !line.answered && !line.closing;
-        let mut line = line;
-        if !(fresh && from_opener) {
-            if flags & FIN != 0 {
-                line.closing = true;
-            }
-            line.answered = true;
-        }
-        self.write(line, clock)?;
+        self.write(connection, fit.next_stage(flags), clock)?;
         Ok(Answer::Renewed)
     }
 
@@ -160,29 +208,17 @@ impl Plain {
         if self.lines.len() >= 1024 {
             return Ok(Answer::BookFull);
         }
-        let line = Line {
-            protocol: protocol(passage.kind),
-            opener: number(passage.source),
-            other: number(passage.destination),
-            answered: false,
-            closing: false,
-            deadline: 0,
-        };
-        self.write(line, clock)?;
+        self.write(Connection::from(passage), Stage::Fresh, clock)?;
         Ok(Answer::Created)
     }
 
     pub fn judge(&mut self, passage: &Passage, clock: u32) -> Result<Judged, AllocError> {
-        self.forget_dead(clock);
-        if let Some((line, from_opener)) = self.fit(passage) {
-            let fresh = from_opener && !line.answered && !line.closing;
-            let answer = self.renew(line, from_opener, flags(passage.kind), clock)?;
-            let label = if fresh {
-                Label::New
-            } else {
-                Label::Established
-            };
-            return Ok(Judged { label, answer });
+        self.lines.retain(|line| line.deadline > u64::from(clock));
+        if let Some(fit) = self.fit(passage) {
+            return Ok(Judged {
+                label: fit.label(),
+                answer: self.renew(&fit, flags(passage.kind), clock)?,
+            });
         }
         if !opens(passage.kind) {
             return Ok(Judged {
@@ -190,10 +226,9 @@ impl Plain {
                 answer: Answer::Nothing,
             });
         }
-        let answer = self.open(passage, clock)?;
         Ok(Judged {
             label: Label::New,
-            answer,
+            answer: self.open(passage, clock)?,
         })
     }
 }

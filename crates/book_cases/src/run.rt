@@ -3,13 +3,14 @@ use crate::chance::Chance;
 use crate::packets::end;
 use crate::plain::{Judged, Plain};
 use book::{Answer, Book, End, Kind, Passage};
+use fields::values::flags::{ACK, FIN, SYN};
 use std::alloc::AllocError;
 use std::io;
 
 const STEPS: u32 = 200_000;
 
 // What the run came by.
-#[derive(Drop)]
+#[derive(Default, Drop)]
 struct Tally {
     agree: u32,
     nothing: u32,
@@ -38,9 +39,9 @@ fn kind(chance: &mut Chance) -> Kind {
         5 | 6 => Kind::EchoRequest,
         7 => Kind::EchoReply,
         8 => Kind::Unconnected,
-        9..=11 => Kind::Tcp(2),
-        12 => Kind::Tcp(16),
-        13 => Kind::Tcp(17),
+        9..=11 => Kind::Tcp(SYN),
+        12 => Kind::Tcp(ACK),
+        13 => Kind::Tcp(ACK + FIN),
         _ => Kind::Tcp((chance.below(64) % 64) as u8),
     }
 }
@@ -64,10 +65,6 @@ fn tick(chance: &mut Chance, clock: u32) -> u32 {
     clock.saturating_add(by)
 }
 
-fn same(a: &Judged, b: &Judged) -> bool {
-    a.label == b.label && a.answer == b.answer
-}
-
 fn ask(book: &mut Book, passage: &Passage, clock: u32) -> Judged {
     let label = book.label(passage, clock);
     let answer = book.step(passage, clock);
@@ -76,7 +73,8 @@ fn ask(book: &mut Book, passage: &Passage, clock: u32) -> Judged {
 
 // Runs both books over the same packets. Few hosts at first in each round, so that packets meet entries; then
 // enough for the book to fill.
-fn compare(book: &mut Book, plain: &mut Plain, tally: &mut Tally) -> Result<(), AllocError> {
+fn compare(book: &mut Book, plain: &mut Plain) -> Result<Tally, AllocError> {
+    let mut tally = Tally::default();
     let mut chance = Chance::new(1_024);
     let mut clock: u32 = 0;
     for n in 0..STEPS {
@@ -89,27 +87,18 @@ fn compare(book: &mut Book, plain: &mut Plain, tally: &mut Tally) -> Result<(), 
         };
         let told = ask(book, &passage, clock);
         let expected = plain.judge(&passage, clock)?;
-        if same(&told, &expected) {
+        if told == expected {
             tally.agree = tally.agree.wrapping_add(1);
         }
         tally.count(told.answer);
     }
-    Ok(())
+    Ok(tally)
 }
 
 pub fn run(rt: &HostRuntime) -> io::Result<()> {
     println!(rt; "{STEPS} steps by chance, against a book that scans a list")?;
     let mut book = Book::new(rt.alloc(), 7)?;
     let mut plain = Plain::new(rt.alloc());
-    let mut tally = Tally {
-        agree: 0,
-        nothing: 0,
-        created: 0,
-        renewed: 0,
-        erased: 0,
-        full: 0,
-    };
-    compare(&mut book, &mut plain, &mut tally)?;
     let Tally {
         agree,
         nothing,
@@ -117,7 +106,7 @@ pub fn run(rt: &HostRuntime) -> io::Result<()> {
         renewed,
         erased,
         full,
-    } = tally;
+    } = compare(&mut book, &mut plain)?;
     println!(rt;
         "  nothing {nothing}, created {created}, renewed {renewed}, erased {erased}, book full {full}"
     )?;
