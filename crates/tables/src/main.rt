@@ -4,6 +4,7 @@
 #![tactic(auto)]
 
 mod input;
+mod named;
 mod print;
 mod samples;
 mod sheet;
@@ -17,7 +18,7 @@ fn run(rt: &HostRuntime) -> anyhow::Result<()> {
     if input.faults > 0 {
         return Err(anyhow!("the list is refused"));
     }
-    let sheets = sheets::all(rt.alloc(), &input.rules, &input.values)?;
+    let sheets = sheets::all(rt.alloc(), &input)?;
     print::list(rt, &input.rules, &sheets)?;
     print::values(rt, &sheets)
 }

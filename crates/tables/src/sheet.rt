@@ -1,16 +1,11 @@
 // What one column says: the rows of its table, and the rows of the values that are asked for.
+use crate::named::Named;
 use anyhow::anyhow;
 use columns::column::Column;
 use fields::condition::Condition;
-use rows::Row;
+use fields::field::Field;
+use rows::{PLACES, Row};
 use std::alloc::Global;
-
-// A value, or absence, with the text that names it.
-#[derive(Drop)]
-pub struct Sample<V: Copy> {
-    pub text: String,
-    pub value: Option<V>,
-}
 
 // A row with the text of its value, and whether the plain reading gives the same bits.
 #[derive(Drop)]
@@ -22,35 +17,25 @@ pub struct Reading {
 
 #[derive(Drop)]
 pub struct Sheet {
-    pub name: &'static str,
+    pub field: Field,
     // whether some rule has another condition than any here
     pub used: bool,
     pub table: Vec<Reading>,
     pub asked: Vec<Reading>,
 }
 
-// The column that lists the conditions.
-fn build<K: Condition, C: Column<Condition = K>>(
-    heap: Global,
+// Lets the empty column list the conditions.
+fn fill<K: Condition, C: Column<Condition = K>>(
+    column: &mut C,
     conditions: &[K],
-) -> anyhow::Result<C> {
-    let mut column = C::new(heap)?;
+) -> anyhow::Result<()> {
     for condition in conditions {
         let position = column.len() + 1;
         if column.insert(position, *condition).is_err() {
             return Err(anyhow!("a list has at most 512 rules"));
         }
     }
-    Ok(column)
-}
-
-fn is_used<K: Condition>(conditions: &[K]) -> bool {
-    for condition in conditions {
-        if !condition.is_any() {
-            return true;
-        }
-    }
-    false
+    Ok(())
 }
 
 // Whether the row has just the bits that the conditions give when they are asked one by one.
@@ -59,30 +44,19 @@ fn is_top_down<V: Copy, K: Condition<Value = V>>(
     value: Option<V>,
     row: &Row,
 ) -> bool {
-    let mut place = 0usize;
-    for condition in conditions {
-        if row.get(place) != condition.holds_on(value) {
-            return false;
-        }
-        place = place.saturating_add(1);
-    }
-    for behind in place..512 {
-        if row.get(behind) {
-            return false;
-        }
-    }
-    true
+    let asked = conditions.iter().enumerate().all(|(place, condition)| row.get(place)
+        == condition.holds_on(value));
+    asked && (conditions.len()..PLACES).all(|behind| !row.get(behind))
 }
 
 fn read_all<V: Copy, K: Condition<Value = V>, C: Column<Condition = K>>(
     heap: Global,
     column: &C,
     conditions: &[K],
-    samples: Vec<Sample<V>>,
+    samples: Vec<Named<Option<V>>>,
 ) -> anyhow::Result<Vec<Reading>> {
     let mut readings = Vec::new(heap);
-    for sample in samples {
-        let Sample { text, value } = sample;
+    for Named { text, value } in samples {
         let mut row = Row::zeros();
         column.read(value, &mut row);
         let same = is_top_down(conditions, value, &row);
@@ -91,20 +65,21 @@ fn read_all<V: Copy, K: Condition<Value = V>, C: Column<Condition = K>>(
     Ok(readings)
 }
 
-// The sheet of a column over these conditions, read at the samples.
+// The sheet of a column, which is empty yet, over these conditions, read at the samples.
 pub fn make_sheet<V: Copy, K: Condition<Value = V>, C: Column<Condition = K>>(
     heap: Global,
-    name: &'static str,
+    field: Field,
+    mut column: C,
     conditions: &[K],
-    samples: Vec<Sample<V>>,
-    asked: Vec<Sample<V>>,
+    samples: Vec<Named<Option<V>>>,
+    asked: Vec<Named<Option<V>>>,
 ) -> anyhow::Result<Sheet> {
-    let column: C = build(heap, conditions)?;
+    fill(&mut column, conditions)?;
     let table = read_all(heap, &column, conditions, samples)?;
     let asked = read_all(heap, &column, conditions, asked)?;
     Ok(Sheet {
-        name,
-        used: is_used(conditions),
+        field,
+        used: conditions.iter().any(|condition| !condition.is_any()),
         table,
         asked,
     })

@@ -1,12 +1,15 @@
 // The sheets of the eight columns, in the fixed order of the fields.
-use crate::input::Shown;
+use crate::input::Input;
+use crate::named::Named;
 use crate::samples;
-use crate::sheet::{Sample, Sheet, make_sheet};
+use crate::sheet::{Sheet, make_sheet};
 use codes::spread::flags::FlagsColumn;
 use codes::spread::label::LabelColumn;
 use codes::spread::protocol::ProtocolColumn;
 use columns::column::Column;
 use columns::inverting::Inverting;
+use fields::condition::Condition;
+use fields::field::Field;
 use notation::rule::Rule;
 use notation::value::FieldValue;
 use ports::values::ValueColumn;
@@ -14,140 +17,140 @@ use prefixes::address::AddressColumn;
 use prefixes::name::NameColumn;
 use std::alloc::{AllocError, Global};
 
-fn sample<V: Copy>(shown: &Shown, value: Option<V>) -> Result<Sample<V>, AllocError> {
-    let text = shown.text.clone()?;
-    Ok(Sample { text, value })
-}
-
-fn source(heap: Global, rules: &[Rule], values: &[Shown]) -> anyhow::Result<Sheet> {
+// The sheet of one field: its column, which is empty yet, its condition in a rule, its value among those that are
+// asked for, and the samples of its table.
+fn sheet<
+    V: Copy,
+    K: Condition<Value = V>,
+    C: Column<Condition = K>,
+    S: Fn(&Rule) -> K,
+    A: Fn(FieldValue) -> Option<Option<V>>,
+    T: FnOnce(Global, &[K]) -> Result<Vec<Named<Option<V>>>, AllocError>,
+>(
+    heap: Global,
+    input: &Input,
+    field: Field,
+    column: C,
+    stated: S,
+    asked: A,
+    table: T,
+) -> anyhow::Result<Sheet>
+    requires stated { S.IsAlwaysCallable stated }
+    requires asked { A.IsAlwaysCallable asked }
+    requires table { T.IsAlwaysCallable table }
+{
     let mut conditions = Vec::new(heap);
-    for rule in rules {
-        conditions.push(rule.source)?;
+    for rule in &input.rules {
+        conditions.push(stated(rule))?;
     }
-    let mut asked = Vec::new(heap);
-    for shown in values {
-        if let FieldValue::Source(value) = shown.value {
-            asked.push(sample(shown, value)?)?;
+    let mut values = Vec::new(heap);
+    for shown in &input.values {
+        if let Some(value) = asked(shown.value) {
+            let text = shown.text.clone()?;
+            values.push(Named { text, value })?;
         }
     }
-    let samples = samples::addresses(heap, &conditions)?;
-    make_sheet::<_, _, Inverting<AddressColumn>>(heap, "src", &conditions, samples, asked)
+    let samples = table(heap, &conditions)?;
+    make_sheet(heap, field, column, &conditions, samples, values)
 }
 
-fn destination(heap: Global, rules: &[Rule], values: &[Shown]) -> anyhow::Result<Sheet> {
-    let mut conditions = Vec::new(heap);
-    for rule in rules {
-        conditions.push(rule.destination)?;
-    }
-    let mut asked = Vec::new(heap);
-    for shown in values {
-        if let FieldValue::Destination(value) = shown.value {
-            asked.push(sample(shown, value)?)?;
-        }
-    }
-    let samples = samples::addresses(heap, &conditions)?;
-    make_sheet::<_, _, Inverting<AddressColumn>>(heap, "dst", &conditions, samples, asked)
-}
-
-fn protocol(heap: Global, rules: &[Rule], values: &[Shown]) -> anyhow::Result<Sheet> {
-    let mut conditions = Vec::new(heap);
-    for rule in rules {
-        conditions.push(rule.protocol)?;
-    }
-    let mut asked = Vec::new(heap);
-    for shown in values {
-        if let FieldValue::Protocol(value) = shown.value {
-            asked.push(sample(shown, value)?)?;
-        }
-    }
-    let samples = samples::protocols(heap)?;
-    make_sheet::<_, _, ProtocolColumn>(heap, "proto", &conditions, samples, asked)
-}
-
-fn source_port(heap: Global, rules: &[Rule], values: &[Shown]) -> anyhow::Result<Sheet> {
-    let mut conditions = Vec::new(heap);
-    for rule in rules {
-        conditions.push(rule.source_port)?;
-    }
-    let mut asked = Vec::new(heap);
-    for shown in values {
-        if let FieldValue::SourcePort(value) = shown.value {
-            asked.push(sample(shown, value)?)?;
-        }
-    }
-    let samples = samples::ports(heap, &conditions)?;
-    make_sheet::<_, _, Inverting<ValueColumn>>(heap, "sport", &conditions, samples, asked)
-}
-
-fn destination_port(heap: Global, rules: &[Rule], values: &[Shown]) -> anyhow::Result<Sheet> {
-    let mut conditions = Vec::new(heap);
-    for rule in rules {
-        conditions.push(rule.destination_port)?;
-    }
-    let mut asked = Vec::new(heap);
-    for shown in values {
-        if let FieldValue::DestinationPort(value) = shown.value {
-            asked.push(sample(shown, value)?)?;
-        }
-    }
-    let samples = samples::ports(heap, &conditions)?;
-    make_sheet::<_, _, Inverting<ValueColumn>>(heap, "dport", &conditions, samples, asked)
-}
-
-fn flags(heap: Global, rules: &[Rule], values: &[Shown]) -> anyhow::Result<Sheet> {
-    let mut conditions = Vec::new(heap);
-    for rule in rules {
-        conditions.push(rule.flags)?;
-    }
-    let mut asked = Vec::new(heap);
-    for shown in values {
-        if let FieldValue::Flags(value) = shown.value {
-            asked.push(sample(shown, value)?)?;
-        }
-    }
-    let samples = samples::flags(heap)?;
-    make_sheet::<_, _, FlagsColumn>(heap, "flags", &conditions, samples, asked)
-}
-
-fn label(heap: Global, rules: &[Rule], values: &[Shown]) -> anyhow::Result<Sheet> {
-    let mut conditions = Vec::new(heap);
-    for rule in rules {
-        conditions.push(rule.label)?;
-    }
-    let mut asked = Vec::new(heap);
-    for shown in values {
-        if let FieldValue::Label(value) = shown.value {
-            asked.push(sample(shown, value)?)?;
-        }
-    }
-    let samples = samples::labels(heap)?;
-    make_sheet::<_, _, LabelColumn>(heap, "label", &conditions, samples, asked)
-}
-
-fn interface(heap: Global, rules: &[Rule], values: &[Shown]) -> anyhow::Result<Sheet> {
-    let mut conditions = Vec::new(heap);
-    for rule in rules {
-        conditions.push(rule.interface)?;
-    }
-    let mut asked = Vec::new(heap);
-    for shown in values {
-        if let FieldValue::Interface(value) = shown.value {
-            asked.push(sample(shown, value)?)?;
-        }
-    }
-    let samples = samples::names(heap, &conditions)?;
-    make_sheet::<_, _, Inverting<NameColumn>>(heap, "in", &conditions, samples, asked)
-}
-
-pub fn all(heap: Global, rules: &[Rule], values: &[Shown]) -> anyhow::Result<Vec<Sheet>> {
+pub fn all(heap: Global, input: &Input) -> anyhow::Result<Vec<Sheet>> {
     let mut sheets = Vec::new(heap);
-    sheets.push(source(heap, rules, values)?)?;
-    sheets.push(destination(heap, rules, values)?)?;
-    sheets.push(protocol(heap, rules, values)?)?;
-    sheets.push(source_port(heap, rules, values)?)?;
-    sheets.push(destination_port(heap, rules, values)?)?;
-    sheets.push(flags(heap, rules, values)?)?;
-    sheets.push(label(heap, rules, values)?)?;
-    sheets.push(interface(heap, rules, values)?)?;
+    sheets.push(sheet(
+        heap,
+        input,
+        Field::Source,
+        Inverting::<AddressColumn>::new(heap)?,
+        |rule| rule.source,
+        |value| match value {
+            FieldValue::Source(value) => Some(value),
+            _ => None,
+        },
+        samples::addresses,
+    )?)?;
+    sheets.push(sheet(
+        heap,
+        input,
+        Field::Destination,
+        Inverting::<AddressColumn>::new(heap)?,
+        |rule| rule.destination,
+        |value| match value {
+            FieldValue::Destination(value) => Some(value),
+            _ => None,
+        },
+        samples::addresses,
+    )?)?;
+    sheets.push(sheet(
+        heap,
+        input,
+        Field::Protocol,
+        ProtocolColumn::new(heap)?,
+        |rule| rule.protocol,
+        |value| match value {
+            FieldValue::Protocol(value) => Some(value),
+            _ => None,
+        },
+        |heap, _| samples::protocols(heap),
+    )?)?;
+    sheets.push(sheet(
+        heap,
+        input,
+        Field::SourcePort,
+        Inverting::<ValueColumn>::new(heap)?,
+        |rule| rule.source_port,
+        |value| match value {
+            FieldValue::SourcePort(value) => Some(value),
+            _ => None,
+        },
+        samples::ports,
+    )?)?;
+    sheets.push(sheet(
+        heap,
+        input,
+        Field::DestinationPort,
+        Inverting::<ValueColumn>::new(heap)?,
+        |rule| rule.destination_port,
+        |value| match value {
+            FieldValue::DestinationPort(value) => Some(value),
+            _ => None,
+        },
+        samples::ports,
+    )?)?;
+    sheets.push(sheet(
+        heap,
+        input,
+        Field::Flags,
+        FlagsColumn::new(heap)?,
+        |rule| rule.flags,
+        |value| match value {
+            FieldValue::Flags(value) => Some(value),
+            _ => None,
+        },
+        |heap, _| samples::flags(heap),
+    )?)?;
+    sheets.push(sheet(
+        heap,
+        input,
+        Field::Label,
+        LabelColumn::new(heap)?,
+        |rule| rule.label,
+        |value| match value {
+            FieldValue::Label(value) => Some(value),
+            _ => None,
+        },
+        |heap, _| samples::labels(heap),
+    )?)?;
+    sheets.push(sheet(
+        heap,
+        input,
+        Field::Interface,
+        Inverting::<NameColumn>::new(heap)?,
+        |rule| rule.interface,
+        |value| match value {
+            FieldValue::Interface(value) => Some(value),
+            _ => None,
+        },
+        samples::names,
+    )?)?;
     Ok(sheets)
 }
