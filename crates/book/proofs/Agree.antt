@@ -2,14 +2,11 @@
 use Rattle.std.proofs.Common.{◌≡◌, ℕ, suc, ◌+◌, ◌≤◌, Bool, true, false, cond, not, ◌&&◌, eqb, List, [], ◌∷◌, get_or, Some, None, count_by, Option, sym, refl, ap, ◌∙◌, arith}
 use Rattle.std.proofs.lemmas.List.Sums.{sum_by-cons}
 use Rattle.std.proofs.lemmas.Bool.Decides.{nat_tests}
-use Rattle.book.specs.declared.flow.Protocol.{Protocol}
 use Rattle.book.specs.declared.flow.Flow.{Flow}
 use Rattle.book.specs.declared.entry.Entry.{Entry}
-use Rattle.book.specs.declared.entry.State.{State}
-use Rattle.book.specs.declared.entry.State.TheVariants.{Opened, Answered, Closing}
 use Rattle.book.specs.Places.{Apart}
-use Rattle.book.specs.Values.{protocol_value, state_value}
-use Rattle.book.proofs.Flows.{protocol_equal, same_equal, apart_flows}
+use Rattle.book.specs.Values.{state_value}
+use Rattle.book.proofs.Flows.{same_equal, apart_flows}
 use Rattle.std.specs.List.{find}
 use Rattle.book.specs.Live.{same_flow, live, live_entry, live_count, Same}
 use Rattle.book.proofs.Weigh.{sum_agree, first_none}
@@ -18,46 +15,24 @@ module _ {X : Type 0} (q : X → Bool) where
   count_step : (xs : List X) (x : X) (b : Bool) → q x ≡ b → count_by q (x ∷ xs) ≡ cond b 1 0 + count_by q xs
   count_step xs x b e = sum_by-cons (λ y. cond (q y) 1 0) x xs ∙ ap (λ c. cond c 1 0 + count_by q xs) e
 
-  none_by : (xs : List X) (x : X) (b : Bool) → q x ≡ b → count_by q (x ∷ xs) ≡ 0 → (count_by q xs ≡ 0 → find q xs ≡ None) → cond b (Some x) (find q xs) ≡ None
-  none_by xs x true e h ih = absurd (omega (arith, count_step xs x true e))
-  none_by xs x false e h ih = ih (omega (arith, count_step xs x false e))
-
   pub none_from_zero : (xs : List X) → count_by q xs ≡ 0 → find q xs ≡ None
   none_from_zero [] h = refl
-  none_from_zero (x ∷ xs) h = none_by xs x (q x) refl h (none_from_zero xs)
-
-  zero_by : (xs : List X) (x : X) (b : Bool) → q x ≡ b → cond b (Some x) (find q xs) ≡ None → (find q xs ≡ None → count_by q xs ≡ 0) → count_by q (x ∷ xs) ≡ 0
-  zero_by xs x true e h ih = absurd cc
-  zero_by xs x false e h ih = omega (arith, count_step xs x false e, ih h)
+  none_from_zero (x ∷ xs) h = grind (arith, nat_tests, sum_by-cons (λ y. cond (q y) 1 0) x xs, none_from_zero xs)
 
   pub zero_from_none : (xs : List X) → find q xs ≡ None → count_by q xs ≡ 0
   zero_from_none [] h = refl
-  zero_from_none (x ∷ xs) h = zero_by xs x (q x) refl h (zero_from_none xs)
+  zero_from_none (x ∷ xs) h = grind (arith, nat_tests, sum_by-cons (λ y. cond (q y) 1 0) x xs, zero_from_none xs)
 
   -- what is found passes, and counts under any test that it passes
-  found_by : (r : X → Bool) (x y : X) (xs : List X) (b : Bool) → q y ≡ b → cond b (Some y) (find q xs) ≡ Some x → r x ≡ true
-      → (find q xs ≡ Some x → 1 ≤ count_by (λ e. q e && r e) xs) → 1 ≤ count_by (λ e. q e && r e) (y ∷ xs)
-  found_by r x y xs true e h k ih =
-      let s : y ≡ x = cc in
-      let w : ◌≡◌ {A = ℕ} (cond (q y && r y) 1 0) 1 = rw (e, s, k) in
-      omega (arith, sum_by-cons (λ e. cond (q e && r e) 1 0) y xs, w)
-  found_by r x y xs false e h k ih =
-      let i = ih h in omega (arith, sum_by-cons (λ e. cond (q e && r e) 1 0) y xs, i)
-
   pub counts_found : (r : X → Bool) (x : X) (xs : List X) → find q xs ≡ Some x → r x ≡ true → 1 ≤ count_by (λ e. q e && r e) xs
   counts_found r x [] h k = absurd cc
-  counts_found r x (y ∷ xs) h k = found_by r x y xs (q y) refl h k (λ g. counts_found r x xs g k)
-
-  halves : (a b : Bool) → ◌≡◌ {A = ℕ} (cond a 1 0) (cond (a && b) 1 0 + cond (a && not b) 1 0)
-  halves true true = refl
-  halves true false = refl
-  halves false b = refl
+  counts_found r x (y ∷ xs) h k = grind (arith, nat_tests, sum_by-cons (λ e. cond (q e && r e) 1 0) y xs, counts_found r x xs)
 
   -- a second test parts what passes
   pub count_parted : (r : X → Bool) (xs : List X) → count_by q xs ≡ count_by (λ e. q e && r e) xs + count_by (λ e. q e && not (r e)) xs
   count_parted r [] = refl
   count_parted r (x ∷ xs) =
-      omega (arith, sum_by-cons (λ e. cond (q e) 1 0) x xs, sum_by-cons (λ e. cond (q e && r e) 1 0) x xs, sum_by-cons (λ e. cond (q e && not (r e)) 1 0) x xs, halves (q x) (r x), count_parted r xs)
+      grind (arith, nat_tests, sum_by-cons (λ e. cond (q e) 1 0) x xs, sum_by-cons (λ e. cond (q e && r e) 1 0) x xs, sum_by-cons (λ e. cond (q e && not (r e)) 1 0) x xs, count_parted r xs)
 
   -- lists that agree on every test answer alike, where one entry passes at most
   module _ (eq : X → X → Bool) (eq_self : (x : X) → eq x x ≡ true) (eq_true : (x y : X) → eq x y ≡ true → x ≡ y)
@@ -100,41 +75,12 @@ same_entry a b = same_flow a.flow b.flow && (eqb (state_value a.state) (state_va
 entry_self : (e : Entry) → same_entry e e ≡ true
 entry_self e = grind (arith, nat_tests)
 
-one_state : (p r : State) → state_value p ≡ state_value r → p ≡ r
-one_state Opened Opened e = refl
-one_state Opened Answered e = absurd (omega arith)
-one_state Opened Closing e = absurd (omega arith)
-one_state Answered Opened e = absurd (omega arith)
-one_state Answered Answered e = refl
-one_state Answered Closing e = absurd (omega arith)
-one_state Closing Opened e = absurd (omega arith)
-one_state Closing Answered e = absurd (omega arith)
-one_state Closing Closing e = refl
-
-fields_of : (a b : Entry) → same_entry a b ≡ true
-    → (protocol_value a.flow.protocol ≡ protocol_value b.flow.protocol) × (a.flow.opener.address.bits ≡ b.flow.opener.address.bits) × (a.flow.opener.port ≡ b.flow.opener.port)
-    × (a.flow.other.address.bits ≡ b.flow.other.address.bits) × (a.flow.other.port ≡ b.flow.other.port) × (state_value a.state ≡ state_value b.state) × (a.deadline ≡ b.deadline)
-fields_of a b h = (grind (arith, nat_tests), grind (arith, nat_tests), grind (arith, nat_tests), grind (arith, nat_tests), grind (arith, nat_tests), grind (arith, nat_tests), grind (arith, nat_tests))
-
-abbrev entry : Protocol → ℕ → ℕ → ℕ → ℕ → State → ℕ → Entry
-entry p a n b m s d = record { flow = record { protocol = p; opener = record { address = record { bits = a }; port = n }; other = record { address = record { bits = b }; port = m } }; state = s; deadline = d }
-
 entry_true : (a b : Entry) → same_entry a b ≡ true → a ≡ b
-entry_true a b h =
-    let f = fields_of a b h in
-    let p = protocol_equal a.flow.protocol b.flow.protocol f.0 in
-    let s = one_state a.state b.state f.5 in
-    let e : entry a.flow.protocol a.flow.opener.address.bits a.flow.opener.port a.flow.other.address.bits a.flow.other.port a.state a.deadline
-    ≡ entry b.flow.protocol b.flow.opener.address.bits b.flow.opener.port b.flow.other.address.bits b.flow.other.port b.state b.deadline =
-    rw (p, f.1, f.2, f.3, f.4, s, f.6) in
-    e
+entry_true a b h = grind (arith, nat_tests)
 
 -- the tests of a look-up and of a count, in one order
 turned : (s v b : Bool) → ◌≡◌ {A = ℕ} (cond ((s && v) && b) 1 0) (cond (v && (s && b)) 1 0)
-turned true true b = refl
-turned true false b = refl
-turned false true b = refl
-turned false false b = refl
+turned s v b = grind (arith, nat_tests)
 
 pub same_find : (t : ℕ) (f : Flow) (es fs : List Entry) → Same t es fs → count_by (λ e. same_flow e.flow f && live t e) es ≤ 1 → live_entry t f fs ≡ live_entry t f es
 same_find t f es fs h once =

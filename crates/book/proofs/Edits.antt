@@ -1,7 +1,6 @@
 -- The live entries after an edit of the list.
-use Rattle.std.proofs.Common.{◌≡◌, ℕ, suc, ◌+◌, ◌-◌, ◌<◌, ◌≤◌, Bool, true, false, cond, not, ◌&&◌, ltb, List, [], ◌∷◌, ◌++◌, length, get_or, take, set, MatchBool, sum_by, sym, refl, ap, ◌∙◌, subst, arith, length-set, length-take-le, get_or-set_other, get_or-take, le-ltb, lt-ltb}
+use Rattle.std.proofs.Common.{◌≡◌, ℕ, suc, ◌+◌, ◌<◌, ◌≤◌, Bool, true, cond, not, ◌&&◌, List, [], ◌∷◌, ◌++◌, length, get_or, set, sum_by, sym, refl, ◌∙◌, arith, lt-ltb}
 use Rattle.std.specs.List.{swap_remove}
-use Rattle.std.proofs.lemmas.List.{get_or_default}
 use Rattle.std.proofs.lemmas.List.Sums.{sum_by-cons, sum_by_push, sum_by-set, sum_by-swap_remove, count_by-le-length}
 use Rattle.std.proofs.lemmas.Bool.Decides.{nat_tests}
 use Rattle.book.specs.declared.flow.Flow.{Flow}
@@ -52,12 +51,7 @@ module _ (t : ℕ) where
       omega (arith, sum_by-cons (weight t (λ _. true)) x xs)
 
   moved_test : (s a b : Bool) → ◌≡◌ {A = ℕ} (cond (not s) (cond (a && b) 1 0) 0) (cond (a && (b && not s)) 1 0)
-  moved_test true true true = refl
-  moved_test true true false = refl
-  moved_test true false b = refl
-  moved_test false true true = refl
-  moved_test false true false = refl
-  moved_test false false b = refl
+  moved_test s a b = grind (arith, nat_tests)
 
   -- the entries of other flows, counted by a test
   count_without : (f : Flow) (es : List Entry) (p : Entry → Bool) → sum_by (weight t p) (without f es) ≡ sum_by (weight t (λ e. p e && not (same_flow e.flow f))) es

@@ -16,9 +16,7 @@ use Rattle.book.proofs.Edits.{same_without, same_cons}
 use Rattle.book.proofs.Agree.{same_find, once}
 
 lasting : (a b c : Bool) → (b ≡ true → a ≡ true) → ◌≡◌ {A = ℕ} (cond (b && c) 1 0) (cond (a && (b && c)) 1 0)
-lasting true b c h = refl
-lasting false true c h = absurd (let e : false ≡ true = h refl in cc)
-lasting false false c h = refl
+lasting a b c h = grind (arith, nat_tests)
 
 live_before : (t u : ℕ) (e : Entry) → t ≤ u → live u e ≡ true → live t e ≡ true
 live_before t u e l h = grind (arith, nat_tests)

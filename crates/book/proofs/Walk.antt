@@ -1,14 +1,13 @@
 -- Walks through the slots of an index.
-use Rattle.std.proofs.Common.{◌≡◌, ℕ, zero, suc, ◌+◌, ◌-◌, ◌%◌, ◌<◌, ◌≤◌, cond, ◌≢◌, ◌⊎◌, List, [], ◌∷◌, length, get_or, set, replicate, Option, Some, None, is_none, sym, refl, ap, ◌∙◌, subst, inl, inr, eq-or-lt_of_le, arith, get_or-set_other, get_or-set_same}
-use Rattle.std.proofs.lemmas.List.Sums.{sum_by-cons, sum_by-set}
+use Rattle.std.proofs.Common.{◌≡◌, ℕ, zero, suc, ◌+◌, ◌-◌, ◌%◌, ◌<◌, cond, ◌≢◌, ◌⊎◌, List, [], ◌∷◌, length, get_or, replicate, Option, Some, None, is_none, sym, refl, ap, ◌∙◌, subst, inl, inr, eq-or-lt_of_le, arith}
+use Rattle.std.proofs.lemmas.List.Sums.{sum_by-cons}
 use Rattle.std.proofs.lemmas.List.{get_or_default}
 use Rattle.std.proofs.lemmas.Bool.Decides.{leb_tells}
 use Rattle.book.specs.declared.flow.Flow.{Flow}
 use Rattle.book.specs.declared.entry.Entry.{Entry}
 use Rattle.book.specs.declared.hash.Keys.{Keys}
 use Rattle.book.specs.Home.{home}
-use Rattle.book.specs.Index.{spot, slot_at, frees, Taken, Met, Reached, Kept, Linked, FreeAt, Other}
-use Rattle.book.specs.Places.{Absent}
+use Rattle.book.specs.Index.{spot, slot_at, frees, Taken, Met, Reached, Kept, Linked}
 
 pub three : (k i : ℕ) → (k < i) ⊎ ((k ≡ i) ⊎ (i < k))
 three k i = elim (leb_tells k i) [

@@ -1,5 +1,5 @@
 -- What a book holds: its live entries, in any order.
-use Rattle.std.specs.Prelude.{◌≡◌, ℕ, ◌<◌, ◌≤◌, Bool, true, cond, not, ◌&&◌, List, [], ◌∷◌, length, All, Some, None, count_by, filter, find, Option, ◌==◌, nat_lt}
+use Rattle.std.specs.Prelude.{◌≡◌, ℕ, ◌<◌, ◌≤◌, Bool, true, cond, not, ◌&&◌, List, ◌∷◌, length, All, Some, None, count_by, filter, find, Option, ◌==◌, nat_lt}
 use Rattle.book.specs.declared.flow.End.{End}
 use Rattle.book.specs.declared.flow.Flow.{Flow}
 use Rattle.book.specs.declared.entry.Entry.{Entry}
