@@ -40,7 +40,7 @@ impl Index {
         ensures result { MatchOption result (Absent entries.now flow) (λ i. Held entries.now flow i) }
     {
         let home = self.keys.home(flow);
-        // The walk wraps round. A chain of the slots from home on and those before it was a third slower: 6.2 ns against 4.6.
+        // The walk wraps round. A chain of the slots from home on and those before it is a third slower: 6.2 ns against 4.6.
         for j in 0..SLOTS {
             let number = usize::from(self.slots[(home + j) % SLOTS]?);
             if number < entries.len() && entries[number].is_of(flow) {
@@ -56,7 +56,7 @@ impl Index {
         ensures result { FreeAt self.now.slots (home self.now.keys flow) result }
     {
         let home = self.keys.home(flow);
-        // As in `seek`; `map` and `find` over these numbers were as slow as the chain.
+        // As in `seek`; `map` and `find` over these numbers are as slow as the chain.
         for j in 0..SLOTS {
             let p = (home + j) % SLOTS;
             if self.slots[p].is_none() {
