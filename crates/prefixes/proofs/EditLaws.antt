@@ -65,8 +65,8 @@ ascending_removed ss m pos h a =
     apart i j l k (inr x) (inl y) = absurd (omega arith)
     apart i j l k (inr x) (inr y) = rw (get_or-remove_above ss m [] i x h, get_or-remove_above ss m [] j y h) (a.2 (i + 1) (j + 1) (omega arith) k)
 
-pub strings_inserted : (xs ys : List Stored) (m : ℕ) (x : Stored) → ys ≡ insert xs m x → strings ys ≡ insert (strings xs) m (string_of x)
-strings_inserted xs ys m x e = ap strings e ∙ map_inserted string_of xs m x
+pub strings_inserted : (xs ys : List Stored) (m : ℕ) (x : Stored) (p : List ℕ) → ys ≡ insert xs m x → string_of x ≡ p → strings ys ≡ insert (strings xs) m p
+strings_inserted xs ys m x p e q = ap strings e ∙ map_inserted string_of xs m x ∙ ap (insert (strings xs) m) q
 
 pub strings_removed : (xs ys : List Stored) (m : ℕ) → ys ≡ remove xs m → strings ys ≡ remove (strings xs) m
 strings_removed xs ys m e = ap strings e ∙ map_removed string_of xs m

@@ -176,6 +176,10 @@ row_longest ss rows fs key r row level l is told stores i =
     ∙ ap (λ (bs : List Bool). get_or bs i false) (tests_agree (λ f. covers f (at ss r)) (λ f. covers f key) None fs
     (λ k h. covers_longest ss key r l (get_or fs k None) (stored_front ss fs stores k h)))
 
+-- the same of an equal row and an equal string
+both : (fs : Fronts) {q s : List ℕ} {x y : Row} → q ≡ s → x ≡ y → Shows y (λ f. covers f s) fs → Shows x (λ f. covers f q) fs
+both fs {q} {s} {x} {y} d e w = subst (λ (t : List ℕ). Shows x (λ f. covers f t) fs) (sym d) (subst (λ (z : Row). Shows z (λ f. covers f s) fs) (sym e) w)
+
 -- a row more and a row less
 told_inserted : (ss : List (List ℕ)) (rows : List Row) (fs : Fronts) (m : ℕ) (p : List ℕ) (row : Row) → length rows ≡ length ss → m ≤ length ss
     → Shows row (λ f. covers f p) fs → Told ss rows fs → Told (insert ss m p) (insert rows m row) fs
@@ -183,17 +187,14 @@ told_inserted ss rows fs m p row level h new told k l =
     let n = length-insert rows m row (omega arith) in
     let b : Row = record { words = [] } in
     ⊎_elim
-    (λ e. both (ap (at (insert ss m p)) e ∙ get_or-insert_at ss m p [] h)
+    (λ e. both fs (ap (at (insert ss m p)) e ∙ get_or-insert_at ss m p [] h)
     (ap (λ i. get_or (insert rows m row) i b) e ∙ get_or-insert_at rows m row b (omega arith)) new)
     (⊎_elim
-    (λ less. both (get_or-insert_below ss m p [] k less h) (get_or-insert_below rows m row b k less (omega arith)) (told k (omega arith)))
+    (λ less. both fs (get_or-insert_below ss m p [] k less h) (get_or-insert_below rows m row b k less (omega arith)) (told k (omega arith)))
     (λ more. let e : k ≡ k - 1 + 1 = omega arith in
-    both (ap (at (insert ss m p)) e ∙ get_or-insert_above ss m p [] (k - 1) (omega arith) h)
+    both fs (ap (at (insert ss m p)) e ∙ get_or-insert_above ss m p [] (k - 1) (omega arith) h)
     (ap (λ i. get_or (insert rows m row) i b) e ∙ get_or-insert_above rows m row b (k - 1) (omega arith) (omega arith)) (told (k - 1) (omega arith))))
     (cases_order k m)
-  where
-    both : {q s : List ℕ} {x y : Row} → q ≡ s → x ≡ y → Shows y (λ f. covers f s) fs → Shows x (λ f. covers f q) fs
-    both {q} {s} {x} {y} d e w = subst (λ (t : List ℕ). Shows x (λ f. covers f t) fs) (sym d) (subst (λ (z : Row). Shows z (λ f. covers f s) fs) (sym e) w)
 
 told_removed : (ss : List (List ℕ)) (rows : List Row) (fs : Fronts) (j : ℕ) → length rows ≡ length ss → j < length ss
     → Told ss rows fs → Told (remove ss j) (remove rows j) fs
@@ -201,12 +202,9 @@ told_removed ss rows fs j level h told k l =
     let n = length-remove rows j (omega arith) in
     let b : Row = record { words = [] } in
     ⊎_elim
-    (λ less. both (get_or-remove_below ss j [] k less h) (get_or-remove_below rows j b k less (omega arith)) (told k (omega arith)))
-    (λ ge. both (get_or-remove_above ss j [] k ge h) (get_or-remove_above rows j b k ge (omega arith)) (told (k + 1) (omega arith)))
+    (λ less. both fs (get_or-remove_below ss j [] k less h) (get_or-remove_below rows j b k less (omega arith)) (told k (omega arith)))
+    (λ ge. both fs (get_or-remove_above ss j [] k ge h) (get_or-remove_above rows j b k ge (omega arith)) (told (k + 1) (omega arith)))
     (cases_lt k j)
-  where
-    both : {q s : List ℕ} {x y : Row} → q ≡ s → x ≡ y → Shows y (λ f. covers f s) fs → Shows x (λ f. covers f q) fs
-    both {q} {s} {x} {y} d e w = subst (λ (t : List ℕ). Shows x (λ f. covers f t) fs) (sym d) (subst (λ (z : Row). Shows z (λ f. covers f s) fs) (sym e) w)
 
 -- a string more with the row of its longest stored front, and a string less
 pub told_given : (ss ts : List (List ℕ)) (rows new : List Row) (m : ℕ) (p : List ℕ) (r : ℕ) (row : Row) → length rows ≡ length ss → m ≤ length ss → Longest ss p r

@@ -139,22 +139,6 @@ read_1 s i w h p o = parts w p (next s i h ∙ ap (λ (x : ℕ). x ∷ drop (i +
           ap (size (suc w)) e ∙ ap (λ (n : ℕ). size n (drop (i + 1) s)) d,
         )
 
--- no number has so many bits, or such a symbol
-pub read_none : (s : List ℕ) (i w : ℕ) → i < length s → (w ≡ 0) ⊎ (1 < get_or s i 0) → (low w (drop i s) ≡ 2 ^ w) × (size w (drop i s) ≡ 0)
-read_none s i w h r = let e = next s i h in parts w (get_or s i 0) e r
-  where
-    parts : (w x : ℕ) → drop i s ≡ x ∷ drop (i + 1) s → (w ≡ 0) ⊎ (1 < x) → (low w (drop i s) ≡ 2 ^ w) × (size w (drop i s) ≡ 0)
-    parts zero x e r = (ap (low 0) e, ap (size 0) e)
-    parts (suc w) zero e (inl z) = absurd (omega arith)
-    parts (suc w) zero e (inr l) = absurd (omega arith)
-    parts (suc w) (suc zero) e (inl z) = absurd (omega arith)
-    parts (suc w) (suc zero) e (inr l) = absurd (omega arith)
-    parts (suc w) (suc (suc x)) e r = (ap (low (suc w)) e, ap (size (suc w)) e)
-
 pub half : (w : ℕ) → 0 < w → 2 ^ w / 2 ≡ 2 ^ (w - 1)
 half zero p = absurd (omega arith)
 half (suc w) p = let d = double w in let e : suc w - 1 ≡ w = omega arith in (let q : 2 ^ suc w / 2 ≡ 2 ^ w = omega arith in q) ∙ ap (λ (n : ℕ). 2 ^ n) (sym e)
-
-pub pow_split : (w : ℕ) → 0 < w → 2 ^ w ≡ 2 ^ (w - 1) + 2 ^ (w - 1)
-pow_split zero p = absurd (omega arith)
-pow_split (suc w) p = let e : w ≡ suc w - 1 = omega arith in double w ∙ ap (λ (n : ℕ). 2 ^ n + 2 ^ n) e

@@ -52,29 +52,22 @@ covers_all ss key n r high c j l b =
     (λ ge. absurd (both_ways (ordered (at ss j) key) (high j ge l) (begins_ordered (at ss j) key b)))
     (cases_lt j n)
 
--- one link on
-covers_link : (ss : List (List ℕ)) (key links : List ℕ) (n i : ℕ) → begins (at ss i) key ≡ false → Covers ss (at ss i) i (get_or links i 0) → Covers ss key n i → Covers ss key n (get_or links i 0)
-covers_link ss key links n i f link c j l b =
-    let k = c j l b in
-    link j (below k.0) k.1
-  where
-    below : j ≤ i → j < i
-    below le = ⊎_elim (λ lt. lt) (λ ge. absurd (both_ways (begins (at ss i) key) f (subst (λ (n : ℕ). begins (at ss n) key ≡ true) (let e : j ≡ i = omega arith in e) b))) (cases_lt j i)
-
--- the empty string begins all, so a string that does not begin the key has a place above 0
-not_root : (ss : List (List ℕ)) (key : List ℕ) (i : ℕ) → at ss 0 ≡ [] → begins (at ss i) key ≡ false → 0 < i
-not_root ss key i root f =
-    ⊎_elim
-    (λ lt. lt)
-    (λ ge. absurd (both_ways (begins (at ss i) key) f (ap (λ (s : List ℕ). begins s key) (ap (at ss) (let e : i ≡ 0 = omega arith in e) ∙ root))))
-    (cases_lt 0 i)
-
--- the same, for a set in order that is linked as far as the place
+-- one link on, in a set in order that is linked as far as the place
 pub climbs : (ss : List (List ℕ)) (key links : List ℕ) (n i : ℕ) → Ascending ss → LinkedTo ss links n → i < n → begins (at ss i) key ≡ false → Covers ss key n i
     → (get_or links i 0 < i) × Covers ss key n (get_or links i 0)
 climbs ss key links n i a linked h f c =
-    let link = linked i (not_root ss key i (nil_from_length (at ss 0) a.1) f) h in
-    (link.0, covers_link ss key links n i f link.1 c)
+    let link = linked i pos h in
+    (link.0, λ j l b. let k = c j l b in link.1 j (below j k.0 b) k.1)
+  where
+    -- the empty string begins all, so a string that does not begin the key has a place above 0
+    pos : 0 < i
+    pos = ⊎_elim
+        (λ lt. lt)
+        (λ ge. absurd (both_ways (begins (at ss i) key) f (ap (λ (s : List ℕ). begins s key) (ap (at ss) (let e : i ≡ 0 = omega arith in e) ∙ nil_from_length (at ss 0) a.1))))
+        (cases_lt 0 i)
+
+    below : (j : ℕ) → j ≤ i → begins (at ss j) key ≡ true → j < i
+    below j le b = ⊎_elim (λ lt. lt) (λ ge. absurd (both_ways (begins (at ss i) key) f (subst (λ (n : ℕ). begins (at ss n) key ≡ true) (let e : j ≡ i = omega arith in e) b))) (cases_lt j i)
 
 pub length_strings : (xs : List Stored) → length (strings xs) ≡ length xs
 length_strings xs = length-map xs string_of
@@ -119,7 +112,3 @@ window ss key low high middle below above m a pos lm mh hn b t z mb ma =
     (omega arith) (omega arith))
     (λ ge. let u = z ge in omega arith)
     (cases_lt high (length ss))
-
--- the empty string is behind nothing
-pub low_first : (ss : List (List ℕ)) (key : List ℕ) → Ascending ss → (i : ℕ) → i < 1 → ordered (at ss i) key ≡ true
-low_first ss key a i l = ap (λ (s : List ℕ). ordered s key) (ap (at ss) (let e : i ≡ 0 = omega arith in e) ∙ nil_from_length (at ss 0) a.1)

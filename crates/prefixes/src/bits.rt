@@ -12,6 +12,7 @@ pub(crate) fn spell_bits(value: u128, width: usize, len: usize) -> Symbols
     ensures { spelled result ≡ take len (bits_of width value) }
 {
     let mut symbols = Symbols::new();
+    // By the place of each bit: there is nothing to walk over but the places.
     for i in 0..len {
         let bit = (value >> (width - 1 - i)) % 2;
         symbols.push(bit as u8);

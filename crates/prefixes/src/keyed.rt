@@ -9,6 +9,7 @@ mod edits;
 mod methods;
 
 // The row of a string has a one for each condition that holds on every value which begins so.
+// The rows lie in a table beside the strings, and not in them: what edits a table of rows, and the laws of one, are those of all columns.
 #[derive(Drop)]
 pub(crate) struct KeyedRows {
     set: IndexedSet,

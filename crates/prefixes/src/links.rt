@@ -24,8 +24,9 @@ pub(crate) fn ascend<K: Key>(stored: &[Stored], from: usize, key: &K) -> usize
     at
 }
 
-// Links each string to the longest before it that begins it. Only the strings before one are linked when it is,
-// so that all are cannot be a fact about them yet.
+// Links each string to the longest before it that begins it.
+// By index, since each step reads the strings before the one that it writes. That all are linked is no fact of theirs yet,
+// so the functions here are of a slice and not of the set.
 pub(crate) fn relink(stored: &mut [Stored])
     requires { Ascending (strings stored.old) }
     ensures strings { strings stored.new ≡ strings stored.old }

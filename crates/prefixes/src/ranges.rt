@@ -6,6 +6,7 @@ ghost use Rattle.prefixes.specs.Ranges.{low as low_of, past as past_of};
 pub(crate) const END: u64 = 4294967296;
 
 // The numbers of 32 bits that a string begins: from `low` up to `past`, which it does not.
+// The library's range cannot be copied, so it can be no part of what can.
 #[derive(Clone, Copy)]
 pub(crate) struct Range {
     pub low: u64,

@@ -3,7 +3,7 @@ ghost use Rattle.std.specs.Prelude.{◌≤◌};
 
 mod methods;
 
-// A string of at most 130 symbols.
+// A string of at most 130 symbols. It holds them itself, so that none is allocated for a key.
 #[derive(Clone, Copy)]
 pub struct Symbols {
     bytes: [u8; 130],

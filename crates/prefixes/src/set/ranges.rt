@@ -32,9 +32,9 @@ impl PrefixSet {
         ensures least { (s : ℕ) → s < past_of 32 (string_at (held self.now) answer) → (last + 1 < length (held self.now) → s < low_of 32 (string_at (held self.now) (last + 1))) → s < result }
     {
         let past = self.stored[answer].range.past;
-        if last + 1 < self.stored.len() {
-            return past.min(self.stored[last + 1].range.low);
+        match self.stored.get(last + 1) {
+            Some(next) => past.min(next.range.low),
+            None => past,
         }
-        past
     }
 }

@@ -1,13 +1,8 @@
-use Rattle.std.proofs.Common.{◌<◌, length, ap, ◌∙◌, arith, length-take}
+use Rattle.std.proofs.Common.{◌<◌, length, ◌∙◌, arith}
 use Rattle.std.proofs.lemmas.List.{take_more}
 use Rattle.prefixes.specs.Bits.{bits_of}
 use Rattle.prefixes.proofs.BitLaws.{length_bits, get_or_bits}
 use Rattle.prefixes.proofs.bits.spell_bits.Goals as goal
-
-pub push-requires : goal.push-requires
-push-requires c =
-    let b = bits_of c.args.width c.args.value in
-    omega (arith, ap length c.loop-i.invariant, length-take c.loop-i.i b, length_bits c.args.width c.args.value)
 
 pub loop-i-preserved : goal.loop-i-preserved
 loop-i-preserved c =

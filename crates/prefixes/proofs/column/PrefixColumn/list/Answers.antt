@@ -55,9 +55,3 @@ invariant_of-self g c =
           (λ q pos. ap (λ (ks : List (List ℕ)). has ks q) c.insert.ensures.keys ∙ c.give.ensures.stored q
           ∙ ap (λ b. names f q || b) (s.stored q pos) ∙ sym (some_inserted (λ y. names y q) fs p f));
     }
-
-pub returns : goal.returns
-returns g c =
-    let s = c.args.self.now in
-    let ok : is_ok c.insert-3.result ≡ true = c.insert-3.ensures.succeeds (omega (arith, s.conditions.ok.0, s.room, c.requires.few)) in
-    c.insert-3.ensures.items ∙ cond-true (is_ok c.insert-3.result) _ _ ok

@@ -1,6 +1,5 @@
 use Rattle.std.proofs.Common.{◌≡◌, ℕ, ◌<◌, List, length, Some, Option, sym, ap, ◌∙◌, subst, arith}
 use Rattle.std.specs.Option.{option_map}
-use Rattle.std.proofs.lemmas.List.Edits.{length-remove}
 use Rattle.prefixes.specs.Fronts.{Fronts, named, Stores, StoresWith}
 use Rattle.prefixes.specs.Keyed.{keys_of, rows_of}
 use Rattle.prefixes.specs.Spelled.{spelled}
@@ -12,18 +11,6 @@ use Rattle.prefixes.proofs.keyed.KeyedRows.forget.Goals.{else-at-gt0-via-then-at
 -- a front by another name
 renamed : (ss : List (List ℕ)) (f g : Option (List ℕ)) (fs : Fronts) → f ≡ g → StoresWith ss f fs → StoresWith ss g fs
 renamed ss f g fs e stores = subst (λ (x : Option (List ℕ)). StoresWith ss x fs) e stores
-
-pub invariant_of-self : goal.invariant_of-self
-invariant_of-self c =
-    let s = c.args.self.now in
-    let j = c.in-Ok.at in
-    let h : j < length (keys_of s) = c.in-Ok.ensures.0 in
-    let a = length-remove (rows_of s) j (omega (arith, s.level)) in
-    let b = length-remove (keys_of s) j h in
-    record {
-      level = omega (arith, ap length c.remove.ensures.items, ap length c.take_out.ensures, s.level);
-      room = omega (arith, c.remove.ensures.capacity, s.room);
-    }
 
 pub returns-then-not-serves : goal.returns-then-not-serves
 returns-then-not-serves c =

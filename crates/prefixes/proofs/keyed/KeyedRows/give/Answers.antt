@@ -1,26 +1,11 @@
-use Rattle.std.proofs.Common.{◌≡◌, ℕ, ◌≤◌, true, ◌||◌, List, length, is_ok, sym, ap, ◌∙◌, arith}
+use Rattle.std.proofs.Common.{◌≡◌, ℕ, true, ◌||◌, List, is_ok, sym, ap, ◌∙◌, arith}
 use Rattle.std.specs.Option.{option_map}
-use Rattle.std.proofs.lemmas.List.Edits.{length-insert}
 use Rattle.std.proofs.lemmas.Bool.{cond-true}
 use Rattle.prefixes.specs.Fronts.{names, has}
 use Rattle.prefixes.specs.Keyed.{keys_of, rows_of}
 use Rattle.prefixes.specs.Spelled.{spelled}
 use Rattle.prefixes.proofs.FrontLaws.{told_given, has_inserted, has_already}
 use Rattle.prefixes.proofs.keyed.KeyedRows.give.Goals as goal
-
-pub invariant_of-self : goal.invariant_of-self
-invariant_of-self c =
-    let s = c.args.self.now in
-    let m = c.in-Err.at in
-    let ok : is_ok c.insert.result ≡ true = c.insert.ensures.succeeds (omega (arith, s.rows.ok.0, s.room, s.level)) in
-    let items = c.insert.ensures.items ∙ cond-true (is_ok c.insert.result) _ _ ok in
-    let h : m ≤ length (keys_of s) = c.in-Err.ensures.0 in
-    let a = length-insert (rows_of s) m c.index-row.result.now (omega (arith, s.level)) in
-    let b = length-insert (keys_of s) m (spelled c.in-Some.prefix) h in
-    record {
-      level = omega (arith, ap length items, ap length c.put.ensures, s.level);
-      room = omega (arith, c.insert.ensures.capacity, s.room);
-    }
 
 pub returns-in-Err : goal.returns-in-Err
 returns-in-Err c =

@@ -10,23 +10,7 @@ use Rattle.prefixes.specs.Keyed.{keys_of, rows_of}
 use Rattle.prefixes.specs.Spelled.{spelled}
 use Rattle.prefixes.specs.Stored.{at}
 use Rattle.prefixes.specs.StoredStrings.{strings}
-use Rattle.prefixes.proofs.StoredLaws.{length_strings}
 use Rattle.prefixes.proofs.keyed.KeyedRows.insert.Goals as goal
-
-pub insert_each-requires : goal.insert_each-requires
-insert_each-requires c =
-    let s = c.args.self.now in
-    omega (arith, s.level, ap length c.deref_mut.ensures.value, ap length c.as_slice.ensures, length_strings c.as_slice.result.now)
-
-pub invariant_of-self : goal.invariant_of-self
-invariant_of-self c =
-    let s = c.args.self.now in
-    let new = c.insert_each.new.rows in
-    let n = c.insert_each.auto.rows ∙ ap length c.deref_mut.ensures.value in
-    record {
-      level = ap length (with_items_is s.rows new (omega (arith, s.rows.ok.0))) ∙ n ∙ s.level;
-      room = s.room;
-    }
 
 pub returns : goal.returns
 returns c =

@@ -9,16 +9,6 @@ use Rattle.prefixes.specs.Keyed.{keys_of, rows_of}
 use Rattle.prefixes.specs.Stored.{at}
 use Rattle.prefixes.proofs.keyed.KeyedRows.remove.Goals as goal
 
-pub invariant_of-self : goal.invariant_of-self
-invariant_of-self c =
-    let s = c.args.self.now in
-    let new = c.remove_each.new.rows in
-    let n = c.remove_each.auto.rows ∙ ap length c.deref_mut.ensures.value in
-    record {
-      level = ap length (with_items_is s.rows new (omega (arith, s.rows.ok.0))) ∙ n ∙ s.level;
-      room = s.room;
-    }
-
 pub returns : goal.returns
 returns c =
     let s = c.args.self.now in

@@ -5,12 +5,9 @@ use Rattle.prefixes.specs.Fronts.{covers}
 use Rattle.prefixes.specs.Spelled.{spelled}
 use Rattle.prefixes.specs.Stored.{at}
 use Rattle.prefixes.specs.StoredStrings.{strings}
-use Rattle.columns.proofs.Tables.{each_none, each_more}
+use Rattle.columns.proofs.Tables.{each_more}
 use Rattle.prefixes.proofs.StoredLaws.{spelled_at}
 use Rattle.prefixes.proofs.keyed.edits.insert_each.Goals as goal
-
-pub loop-i-init : goal.loop-i-init
-loop-i-init c = each_none (λ k. Put c.args.place (covers (option_map spelled c.args.front.now) (at (strings c.args.stored.now) k))) c.args.rows.now
 
 pub loop-i-preserved : goal.loop-i-preserved
 loop-i-preserved c =
@@ -22,6 +19,3 @@ loop-i-preserved c =
     let bit = c.covers-bit.ensures ∙ ap (covers f) (spelled_at xs i c.index-stored-i.result (omega arith)) in
     each_more (λ k. Put p (covers f (at (strings xs) k))) c.args.rows.now rows i c.insert.new.self (record { words = [] }) (omega arith) c.loop-i.invariant
     (subst (λ (b : Bool). Put p b (get_or rows i (record { words = [] })) c.insert.new.self) bit c.insert.ensures)
-
-pub returns : goal.returns
-returns c = λ k d h. c.loop-i.invariant.0 k d (omega arith)

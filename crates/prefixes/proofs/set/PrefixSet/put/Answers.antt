@@ -17,7 +17,7 @@ relink-requires c =
     let xs = vec_items s.stored in
     let ok = c.insert.ensures.succeeds (omega (arith, s.stored.ok.0, s.room, length_strings xs)) in
     let strs : strings (vec_items c.insert.new.self) ≡ insert (held s) c.args.at (spelled c.args.prefix) =
-    strings_inserted xs _ c.args.at c.new.result (c.insert.ensures.items ∙ cond-true _ _ _ ok) ∙ ap (insert (held s) c.args.at) c.new.ensures in
+    strings_inserted xs _ c.args.at c.new.result _ (c.insert.ensures.items ∙ cond-true _ _ _ ok) c.new.ensures in
     subst (λ (ts : List (List ℕ)). Ascending ts) (sym (ap strings c.deref_mut.ensures.value ∙ strs))
     (ascending_inserted (held s) (spelled c.args.prefix) c.args.at c.requires.within s.ascending c.requires.fits)
 
@@ -27,7 +27,7 @@ invariant_of-self c =
     let xs = vec_items s.stored in
     let ok = c.insert.ensures.succeeds (omega (arith, s.stored.ok.0, s.room, length_strings xs)) in
     let strs : strings (vec_items c.insert.new.self) ≡ insert (held s) c.args.at (spelled c.args.prefix) =
-    strings_inserted xs _ c.args.at c.new.result (c.insert.ensures.items ∙ cond-true _ _ _ ok) ∙ ap (insert (held s) c.args.at) c.new.ensures in
+    strings_inserted xs _ c.args.at c.new.result _ (c.insert.ensures.items ∙ cond-true _ _ _ ok) c.new.ensures in
     let whole = with_items_is c.insert.new.self c.relink.new.stored (omega (arith, c.relink.auto.stored, c.deref_mut.ensures.len)) in
     record {
       ascending = subst (λ (ts : List (List ℕ)). Ascending ts) (sym (ap strings whole ∙ c.relink.ensures.strings ∙ ap strings c.deref_mut.ensures.value ∙ strs))
@@ -42,6 +42,6 @@ returns c =
     let xs = vec_items s.stored in
     let ok = c.insert.ensures.succeeds (omega (arith, s.stored.ok.0, s.room, length_strings xs)) in
     let strs : strings (vec_items c.insert.new.self) ≡ insert (held s) c.args.at (spelled c.args.prefix) =
-    strings_inserted xs _ c.args.at c.new.result (c.insert.ensures.items ∙ cond-true _ _ _ ok) ∙ ap (insert (held s) c.args.at) c.new.ensures in
+    strings_inserted xs _ c.args.at c.new.result _ (c.insert.ensures.items ∙ cond-true _ _ _ ok) c.new.ensures in
     let whole = with_items_is c.insert.new.self c.relink.new.stored (omega (arith, c.relink.auto.stored, c.deref_mut.ensures.len)) in
     ap strings whole ∙ c.relink.ensures.strings ∙ ap strings c.deref_mut.ensures.value ∙ strs

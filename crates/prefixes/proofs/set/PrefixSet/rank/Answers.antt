@@ -1,22 +1,10 @@
-use Rattle.std.proofs.Common.{◌≡◌, ℕ, ◌+◌, ◌-◌, ◌/◌, ◌<◌, ◌≤◌, true, false, List, length, vec_items, sym, refl, ap, ◌∙◌, subst, arith}
+use Rattle.std.proofs.Common.{◌≡◌, ℕ, ◌+◌, ◌-◌, ◌/◌, ◌<◌, ◌≤◌, true, false, List, length, vec_items, sym, ap, ◌∙◌, subst, arith}
 use Rattle.prefixes.specs.Strings.{ordered, common}
 use Rattle.prefixes.specs.Stored.{at}
 use Rattle.prefixes.specs.Spelled.{spelled}
 use Rattle.prefixes.specs.StoredStrings.{strings}
-use Rattle.prefixes.proofs.StoredLaws.{low_more, high_more, low_first, tested_at, read_at, window, length_strings}
+use Rattle.prefixes.proofs.StoredLaws.{low_more, high_more, tested_at, read_at, window, length_strings}
 use Rattle.prefixes.proofs.set.PrefixSet.rank.Goals as goal
-
-pub loop-low-init : goal.loop-low-init
-loop-low-init c =
-    let set = c.args.self.now in
-    let xs = vec_items set.stored in
-    let n = length_strings xs in (
-      (omega arith, omega (arith, set.ascending.0), omega arith),
-      low_first (strings xs) (spelled c.args.key.now) set.ascending,
-      (λ i l h. absurd (omega arith)),
-      omega arith,
-      ((λ h. omega arith), λ h. refl),
-    )
 
 pub shared-at-requires : goal.shared-at-requires
 shared-at-requires c =
@@ -70,12 +58,3 @@ loop-low-preserved c =
       inv.3,
       ((λ k. omega (arith, b)), λ k. absurd (omega arith)),
     )
-
-pub returns : goal.returns
-returns c =
-    record {
-      some = c.loop-low.invariant.0.0;
-      within = omega arith;
-      low = c.loop-low.invariant.1;
-      high = λ i l h. c.loop-low.invariant.2 i (omega arith) h;
-    }
