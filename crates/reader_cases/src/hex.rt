@@ -1,7 +1,11 @@
 // Bytes written as hex digits.
 use std::alloc::{AllocError, Global};
 
+// Capital letters are no digits here.
 fn digit(c: char) -> Option<u8> {
+    if c.is_ascii_uppercase() {
+        return None;
+    }
     u8::try_from(c.to_digit(16)?).ok()
 }
 
