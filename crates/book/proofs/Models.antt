@@ -1,5 +1,5 @@
 -- From the book's own list to any list of the same live entries.
-use Rattle.std.proofs.Common.{◌≡◌, ℕ, ◌≤◌, Bool, true, false, cond, ◌&&◌, ltb, List, ◌∷◌, get_or, Some, None, MatchBool, Option, sym, refl, ap, ◌∙◌, subst, arith}
+use Rattle.std.proofs.Common.{◌≡◌, ℕ, ◌≤◌, Bool, true, false, cond, ◌&&◌, ltb, List, ◌∷◌, get_or, Some, None, MatchBool, Option, sym, ap, ◌∙◌, subst, arith}
 use Rattle.std.proofs.lemmas.Bool.Decides.{nat_tests}
 use Rattle.book.specs.declared.entry.Entry.{Entry}
 use Rattle.book.specs.declared.entry.Side.TheVariants.{Opener, Other}
@@ -30,8 +30,7 @@ later t u es fs l h p = turn es ∙ h (λ e. live u e && p e) ∙ sym (turn fs)
         (λ k d b. lasting (live t (get_or gs k d)) (live u (get_or gs k d)) (p (get_or gs k d)) (live_before t u (get_or gs k d) l))
 
 only_live : (a b : Bool) → ◌≡◌ {A = ℕ} (cond a (cond (a && b) 1 0) 0) (cond (a && b) 1 0)
-only_live true b = refl
-only_live false b = refl
+only_live a b = grind (arith, nat_tests)
 
 -- a model may forget what is no longer live
 pub same_live : (t : ℕ) (es : List Entry) → Same t es (live_entries t es)

@@ -1,6 +1,7 @@
 -- What an edit leaves of the invariants of a book.
-use Rattle.std.proofs.Common.{◌≡◌, ℕ, ◌+◌, ◌-◌, ◌<◌, ◌≤◌, ◌≢◌, List, [], ◌∷◌, ◌++◌, length, Option, get_or, set, sym, ap, ◌∙◌, subst, inl, inr, arith, length-set, get_or-set_other, get_or-set_same}
+use Rattle.std.proofs.Common.{◌≡◌, ℕ, ◌+◌, ◌-◌, ◌<◌, ◌≤◌, ◌≢◌, List, [], ◌∷◌, ◌++◌, length, Option, get_or, set, sym, ◌∙◌, arith, length-set}
 use Rattle.std.specs.List.{swap_remove}
+use Rattle.std.proofs.lemmas.Grind.{common_steps}
 use Rattle.std.proofs.lemmas.List.Elements.{All-weaker, All-set, All-push, All-take}
 use Rattle.std.proofs.lemmas.List.Quantifiers.{all_pairs_push}
 use Rattle.book.specs.declared.flow.Flow.{Flow}
@@ -9,7 +10,7 @@ use Rattle.book.specs.declared.hash.Keys.{Keys}
 use Rattle.book.specs.Places.{Apart, Held, Absent}
 use Rattle.book.specs.Index.{Reached}
 use Rattle.book.specs.Live.{NoneBefore}
-use Rattle.book.proofs.Walk.{three, reached_at}
+use Rattle.book.proofs.Walk.{reached_at}
 
 abbrev flow_at : List Entry → ℕ → Entry → Flow
 flow_at es k d = (get_or es k d).flow
@@ -17,14 +18,7 @@ flow_at es k d = (get_or es k d).flow
 -- a write of the same flow
 module _ (es : List Entry) (i : ℕ) (x : Entry) (held : Held es x.flow i) where
   flow_set : (k : ℕ) (d : Entry) → flow_at (set es i x) k d ≡ flow_at es k d
-  flow_set k d = elim (three k i) [
-    | inl h ↦ (let n : k ≢ i = (λ z. omega arith) in ap (λ (e : Entry). e.flow) (get_or-set_other es i k x d n))
-    | inr r ↦ elim r [
-      | inl h ↦ (let P : ℕ → Type 0 = λ j. flow_at (set es i x) j d ≡ flow_at es j d in
-          subst P (sym h) (ap (λ (e : Entry). e.flow) (get_or-set_same es i x d held.0) ∙ sym (held.1 d)))
-      | inr h ↦ (let n : k ≢ i = (λ z. omega arith) in ap (λ (e : Entry). e.flow) (get_or-set_other es i k x d n))
-    ]
-  ]
+  flow_set k d = grind (arith, common_steps, held.0, held.1 d)
 
   pub apart_set : Apart es → Apart (set es i x)
   apart_set apart a b d lo hi same =
@@ -58,20 +52,4 @@ module _ (es fs : List Entry) (i : ℕ) (apart : Apart es) (len : length fs + 1 
     (moved : (d : Entry) → i + 1 < length es → get_or fs i d ≡ get_or es (length es - 1) d)
     (kept : (k : ℕ) (d : Entry) → (k ≡ i → ⊥) → k + 1 < length es → get_or fs k d ≡ get_or es k d) where
   pub apart_swapped : Apart fs
-  apart_swapped a b d lo hi same =
-      let at : (k : ℕ) → k < length fs → (k ≡ i → ⊥) → flow_at fs k d ≡ flow_at es k d = (λ k l n. ap (λ (e : Entry). e.flow) (kept k d n (omega arith))) in
-      let end : (k : ℕ) → k < length fs → k ≡ i → flow_at fs k d ≡ flow_at es (length es - 1) d = (λ k l e. ap (λ j. flow_at fs j d) e ∙ ap (λ (x : Entry). x.flow) (moved d (omega arith))) in
-      let others : (a ≡ i → ⊥) → (b ≡ i → ⊥) → ⊥ = (λ na nb. apart a b d lo (omega arith) (sym (at a (omega arith) na) ∙ same ∙ at b hi nb)) in
-      elim (three a i) [
-        | inl h ↦ elim (three b i) [
-          | inl g ↦ others (λ z. omega arith) (λ z. omega arith)
-          | inr s ↦ elim s [
-            | inl g ↦ apart a (length es - 1) d (omega arith) (omega arith) (sym (at a (omega arith) (λ z. omega arith)) ∙ same ∙ end b hi g)
-            | inr g ↦ others (λ z. omega arith) (λ z. omega arith)
-          ]
-        ]
-        | inr r ↦ elim r [
-          | inl h ↦ apart b (length es - 1) d (omega arith) (omega arith) (sym (at b hi (λ z. omega arith)) ∙ sym same ∙ end a (omega arith) h)
-          | inr h ↦ others (λ z. omega arith) (λ z. omega arith)
-        ]
-      ]
+  apart_swapped a b d lo hi same = grind (arith, moved d, kept a d, kept b d, apart a b d, apart a (length es - 1) d, apart b (length es - 1) d)
