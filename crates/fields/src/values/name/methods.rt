@@ -9,11 +9,11 @@ use crate::refusal::{Part, Reason, Refusal};
 pub(crate) fn is_name_byte(byte: u8) -> bool
     ensures result { result ≡ name_byte byte }
 {
-    33 <= byte && byte <= 126 && byte != 43 && byte != 47
+    byte.is_ascii_graphic() && byte != b'+' && byte != b'/'
 }
 
 impl NameText {
-    // The text of these bytes, if there are `low` to 15 and each is a name byte; else 0 for the length, or the index of the first bad byte.
+    // The text of these bytes, if there are `low` to `high` and each is a name byte; else 0 for the length, or the index of the first bad byte.
     pub(crate) fn read(low: usize, high: usize, bytes: &[u8]) -> Result<NameText, usize>
         requires { high ≤ 15 }
         ensures result { MatchResult result (λ t. (text_fault low high bytes.now ≡ None) × (text_bytes t ≡ bytes.now)) (λ place. text_fault low high bytes.now ≡ Some place) }
