@@ -20,29 +20,25 @@ pub fn server() -> End {
     end(2, 443)
 }
 
-// From the client to the server.
-pub fn there(kind: Kind) -> Passage {
+fn from_to(source: End, destination: End, kind: Kind) -> Passage {
     Passage {
         kind,
-        source: client(),
-        destination: server(),
+        source,
+        destination,
     }
+}
+
+// From the client to the server.
+pub fn there(kind: Kind) -> Passage {
+    from_to(client(), server(), kind)
 }
 
 // From the server to the client.
 pub fn back(kind: Kind) -> Passage {
-    Passage {
-        kind,
-        source: server(),
-        destination: client(),
-    }
+    from_to(server(), client(), kind)
 }
 
 // From the client to itself.
 pub fn to_self(kind: Kind) -> Passage {
-    Passage {
-        kind,
-        source: client(),
-        destination: client(),
-    }
+    from_to(client(), client(), kind)
 }

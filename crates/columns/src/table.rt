@@ -1,4 +1,5 @@
 // Tables of rows, whatever their rows stand for.
+// Each kind of column puts its own bits in: one function for all would take them from a closure, and ask something of it, which no public function here does.
 ghost use Rattle.std.specs.Prelude.{ℕ, ◌<◌, length, slice_index_or};
 ghost use Rattle.rows.specs.Tables.{Out};
 ghost use Rattle.rows.specs.declared.row.Row.{Row};

@@ -1,4 +1,5 @@
 // The making of conditions, field by field. What is unlawful is refused with 11 and the field's number; all else is made.
+// Each field has a call of its own, a line over `made`: the numbers that it takes, and what is lawful among them, are its own.
 ghost use Rattle.std.specs.Prelude.{◌≡◌};
 ghost use Rattle.fields.specs.Addresses.{MadePrefix};
 ghost use Rattle.fields.specs.Making.{answer, stated, MadeFrom, end_field, MadeProtocol, MadeFlags, MadeLabels, MadeWhole, MadeBeginning};

@@ -83,7 +83,7 @@ fn unconditional(action: Action) -> Rule {
     }
 }
 
-// Lets the rule have the condition that the text states.
+// Lets the rule have the condition that the text states. Each field's condition has a type of its own, so no table can stand for the match.
 fn state(rule: &mut Rule, field: Field, text: &str) -> Result<(), Refusal> {
     match field {
         Field::Source => rule.source = Notation::read(field, text)?,

@@ -74,6 +74,7 @@ impl FromStr for FieldValue {
 
     fn from_str(word: &str) -> Result<FieldValue, NoValue> {
         let (field, text) = field_and_text(word).ok_or(NoValue)?;
+        // Each field's value has a type of its own, so no table can stand for the match.
         let value = match field {
             Field::Source => FieldValue::Source(or_absent(text, dotted)?),
             Field::Destination => FieldValue::Destination(or_absent(text, dotted)?),

@@ -6,6 +6,7 @@ mod methods;
 
 // Where each stretch starts, and the place of its longest string; how many stretches there are, and where the last ends.
 // Two arrays side by side: a look-up in one array of both takes 15 ns, and 12 in these (10 million look-ups of each).
+// They are full size, padded behind the last stretch, so that each look-up takes the same ten steps.
 #[derive(Drop)]
 pub(crate) struct Stretches {
     starts: [u64; 1025],

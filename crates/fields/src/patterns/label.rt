@@ -10,7 +10,7 @@ pub struct LabelSet {
 }
 
 impl LabelSet {
-    // None for 0 and for what is above 7.
+    // None for 0 and for what is above 7. A law of labels alone, so that no other number shares this making.
     pub(crate) fn new(members: u8) -> Option<LabelSet>
         ensures result { MatchOption result ((0 < members) × (members < 8) → ⊥) (λ s. s.members ≡ members) }
     {

@@ -36,7 +36,7 @@ impl KeyedRows {
         self.rows[self.set.longest(key)]
     }
 
-    // The row of a key that is a number of 32 bits.
+    // The row of a key that is a number of 32 bits: a call of its own, since it goes by the stretches and `row` by a search.
     pub(crate) fn row_of_number(&self, key: u32) -> Row
         ensures { (fs : Fronts) → RowsTold self.now fs → Keys self.now fs → Shows result (λ f. covers f (bits_of 32 key)) fs }
     {

@@ -72,6 +72,7 @@ fn divide(set: &PrefixSet, starts: &mut [u64; 1025], answers: &mut [usize; 1025]
     let mut count = 0;
     starts.fill(END);
     starts[0] = 0;
+    // Counted by hand: where a stretch starts, and whether there is one more, comes out of the one before.
     while start < END && count + 1 < starts.len() {
         last = set.advance(last, start);
         let answer = set.longest_to(last, &(start as u32));
