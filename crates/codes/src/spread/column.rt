@@ -70,9 +70,8 @@ where
     requires { length rows.old ≤ 256 }
     ensures { (k : ℕ) (d : Row) → k < length rows.old → Put place (K.admits condition.now (Some (K.Value.decoded k))) (slice_index_or rows.old k d) (slice_index_or rows.new k d) }
 {
-    // By an index, since proofs know nothing of what is written through `iter_mut().enumerate()`.
-    for code in 0..rows.len() {
+    for (code, row) in rows.iter_mut().enumerate() {
         let holds = condition.holds_on(Some(K::Value::from_code(code as u8)));
-        rows[code].insert(place, holds);
+        row.insert(place, holds);
     }
 }
