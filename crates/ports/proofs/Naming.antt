@@ -1,6 +1,7 @@
 -- The rows of the ports that conditions name, after a condition more and one less.
-use Rattle.std.proofs.Common.{◌≡◌, ℕ, ◌≤◌, true, false, ◌||◌, eqb, List, [], ◌∷◌, map, length, get_or, sym, refl, ap, ◌∙◌, subst, inl, inr, ⊎_elim, arith}
+use Rattle.std.proofs.Common.{◌≡◌, ℕ, ◌≤◌, true, false, ◌||◌, eqb, List, [], ◌∷◌, map, length, get_or, Option, Some, None, Bor, sym, refl, ap, ◌∙◌, subst, inl, inr, ⊎_elim, arith}
 use Rattle.std.specs.List.{insert, remove}
+use Rattle.std.specs.Option.{unwrap_or}
 use Rattle.std.specs.List.Sorted.{IsStrictlyIncreasing}
 use Rattle.std.proofs.lemmas.Bool.{cases_eq, eqb-true, eqb-false, eq-eqb, ne_eqb, or_parts}
 use Rattle.rows.specs.declared.row.Row.{Row}
@@ -10,7 +11,7 @@ use Rattle.fields.specs.declared.condition.plain.Plain.TheVariants.{Any, Is}
 use Rattle.fields.specs.declared.values.port.Port.{Port}
 use Rattle.rows.specs.Shows.{Shows, TableShows}
 use Rattle.ports.specs.Keys.{has}
-use Rattle.ports.specs.Ordered.{keys_of, rows_of, Given, Taken}
+use Rattle.ports.specs.Ordered.{keys_of, rows_of, Found, Given, Taken}
 use Rattle.ports.specs.Owned.{Readied, Cleaned}
 use Rattle.ports.specs.Ports.{port_holds, on_any, names, named}
 use Rattle.columns.proofs.Some.{some_inserted, some_removed}
@@ -43,6 +44,15 @@ unnamed (c ∷ cs) v h =
 
 pub shows_unnamed : (row : Row) (cs : List (Plain Port)) (v : ℕ) → named cs v ≡ false → Shows row on_any cs → Shows row (λ c. port_holds c v) cs
 shows_unnamed row cs v h s i = s i ∙ sym (ap (λ bs. get_or bs i false) (unnamed cs v h))
+
+-- the row of a port, or that of all others where it has none
+pub found_or : (v : ℕ) (t : OrderedRows) (cs : List (Plain Port)) (r : Option (Bor Row)) (others : Bor Row) → Found v t r
+    → ((u : ℕ) → has (keys_of t) u ≡ named cs u) → Told (keys_of t) (rows_of t) cs → Shows others.now on_any cs
+    → Shows (unwrap_or r others).now (λ c. port_holds c v) cs
+found_or v t cs None others none stored told untold = shows_unnamed others.now cs v (sym (stored v) ∙ none) untold
+found_or v t cs (Some row) others (i, l, at, is) stored told untold =
+    subst (λ (x : Row). Shows x (λ c. port_holds c v) cs) (sym is)
+    (subst (λ (n : ℕ). Shows (get_or (rows_of t) i (record { words = [] })) (λ c. port_holds c n) cs) at (told i (omega (arith, t.level))))
 
 -- a port that is given a row
 pub has_given : (v : ℕ) (row : Row) (s t : OrderedRows) → Given v row s t → (u : ℕ) → has (keys_of t) u ≡ (eqb v u || has (keys_of s) u)

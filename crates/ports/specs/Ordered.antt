@@ -1,5 +1,6 @@
--- Ordered rows, and what it means that a key gets or loses its row.
-use Rattle.std.specs.Prelude.{◌≡◌, ℕ, ◌<◌, true, false, ◌⊎◌, List, length, vec_items, slice_index}
+-- Ordered rows, and what it means that a key has, gets or loses its row.
+use Rattle.std.specs.Prelude.{◌≡◌, ℕ, ◌<◌, true, false, ◌⊎◌, List, [], length, vec_items, MatchOption, Option, slice_index, slice_index_or}
+use Rattle.std.specs.Borrow.{Bor}
 use Rattle.std.specs.List.{insert, remove}
 use Rattle.ports.specs.Keys.{has, Fits}
 use Rattle.rows.specs.declared.row.Row.{Row}
@@ -10,6 +11,12 @@ keys_of t = vec_items t.keys
 
 abbrev pub rows_of : OrderedRows → List Row
 rows_of t = vec_items t.rows
+
+-- the row beside a key, or nothing where no key is this one
+abbrev pub Found : ℕ → OrderedRows → Option (Bor Row) → Type 0
+Found v s r =
+    MatchOption r (has (keys_of s) v ≡ false)
+    (λ row. (i : ℕ) × (i < length (keys_of s)) × (slice_index (keys_of s) i ≡ v) × (row.now ≡ slice_index_or (rows_of s) i (record { words = [] })))
 
 -- a key has a row: it had one, or it has the new one at its place
 abbrev pub Given : ℕ → Row → OrderedRows → OrderedRows → Type 0

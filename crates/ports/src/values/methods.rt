@@ -59,13 +59,10 @@ impl Column for ValueColumn {
     fn read(&self, value: Option<Port>, row: &mut Row)
         ensures row { Shows row.new (λ c. plain_admits port_passes c value) self.now.conditions.items }
     {
-        match value {
-            Some(port) => match self.table.find(port.number) {
-                Ok(at) => *row = *self.table.row(at),
-                Err(_) => *row = self.others,
-            },
-            None => *row = self.others,
-        }
+        *row = match value {
+            Some(port) => *self.table.get(port.number).unwrap_or(&self.others),
+            None => self.others,
+        };
     }
 }
 

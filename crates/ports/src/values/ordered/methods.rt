@@ -1,7 +1,7 @@
 // What is asked of the rows, and their edits.
 ghost use Rattle.std.specs.Prelude.{◌≡◌, ℕ, ◌<◌, [], length, IfOk, slice_index_or};
 ghost use Rattle.ports.specs.Keys.{Sought, port_at};
-ghost use Rattle.ports.specs.Ordered.{keys_of, rows_of, Given, Taken};
+ghost use Rattle.ports.specs.Ordered.{keys_of, rows_of, Found, Given, Taken};
 ghost use Rattle.rows.specs.Tables.{Put, Out};
 ghost use Rattle.rows.specs.declared.row.Row.{Row};
 
@@ -24,18 +24,20 @@ impl OrderedRows {
     }
 
     // Where the key stands, or, as an `Err`, where it belongs.
-    pub(crate) fn find(&self, key: u16) -> Result<usize, usize>
+    fn find(&self, key: u16) -> Result<usize, usize>
         ensures { Sought (keys_of self.now) key result }
     {
         self.keys.binary_search(&key)
     }
 
-    // The row at a place.
-    pub(crate) fn row(&self, at: usize) -> &Row
-        requires { at < length (keys_of self.now) }
-        ensures { result.now ≡ slice_index_or (rows_of self.now) at (record { words = [] }) }
+    // The key's row, where it has one.
+    pub(crate) fn get(&self, key: u16) -> Option<&Row>
+        ensures { Found key self.now result }
     {
-        &self.rows[at]
+        match self.find(key) {
+            Ok(at) => Some(&self.rows[at]),
+            Err(_) => None,
+        }
     }
 
     // Gives the key a row, a copy of `row`, unless it has one.
@@ -84,9 +86,9 @@ fn put_each<C: Condition<Value = Port>>(rows: &mut [Row], keys: &[u16], place: u
     requires { length rows.old ≡ length keys.now }
     ensures { (k : ℕ) (d : Row) → k < length rows.old → Put place (C.Condition.admits condition.now (port_at keys.now k)) (slice_index_or rows.old k d) (slice_index_or rows.new k d) }
 {
-    // By an index, since proofs know nothing of what is written through `iter_mut().zip(..)`.
-    for (k, key) in keys.iter().enumerate() {
-        let holds = condition.holds_on(Some(Port { number: *key }));
-        rows[k].insert(place, holds);
+    // Each key is read by an index, since proofs know nothing of the rows that `iter_mut().zip(keys)` writes.
+    for (k, row) in rows.iter_mut().enumerate() {
+        let holds = condition.holds_on(Some(Port { number: keys[k] }));
+        row.insert(place, holds);
     }
 }
