@@ -30,6 +30,7 @@ impl PrefixSet {
     }
 
     // The place of the longest other string that begins the string at a place, which is not the empty one.
+    // A type of such places would be taken off again at each use, so each call says it.
     pub(crate) fn parent(&self, at: usize) -> usize
         requires above { 0 < at }
         requires within { at < length (held self.now) }
