@@ -1,7 +1,6 @@
 -- Laws of the front, the order and the common part of two strings.
-use Rattle.std.proofs.Common.{◌≡◌, ℕ, zero, suc, ◌+◌, ◌<◌, ◌≤◌, Bool, true, false, cond, ◌&&◌, eqb, ltb, ◌⊎◌, List, [], ◌∷◌, length, get_or, sym, refl, ap, ◌∙◌, inl, inr, ⊎_elim, arith}
+use Rattle.std.proofs.Common.{◌≡◌, ℕ, zero, suc, ◌+◌, ◌<◌, ◌≤◌, Bool, true, false, cond, eqb, ltb, ◌⊎◌, List, [], ◌∷◌, length, get_or, sym, refl, ap, ◌∙◌, inl, inr, ⊎_elim, arith}
 use Rattle.std.proofs.lemmas.Bool.{eqb-true, eqb-false, eq-eqb, ne_eqb, ltb-true, lt-ltb, cases_eq, both_ways, cond-true, cond-false, cond_both, cases_Bool, ltb-false}
-use Rattle.std.specs.List.{starts_with}
 use Rattle.fields.specs.Strings.{begins}
 use Rattle.prefixes.specs.Strings.{ordered, common}
 
@@ -14,16 +13,6 @@ both_parts false c e = absurd (both_ways false refl e)
 pub either_part : (b c d : Bool) → cond b c d ≡ true → ((b ≡ true) × (c ≡ true)) ⊎ ((b ≡ false) × (d ≡ true))
 either_part true c d e = inl (refl, e)
 either_part false c d e = inr (refl, e)
-
--- the library's word for it
-pub begins_starts : (p s : List ℕ) → begins p s ≡ starts_with eqb s p
-begins_starts [] s = refl
-begins_starts (x ∷ p) [] = refl
-begins_starts (x ∷ p) (y ∷ s) = both (eqb x y) (begins p s) ∙ ap (λ b. eqb x y && b) (begins_starts p s)
-  where
-    both : (b c : Bool) → cond b c false ≡ (b && c)
-    both true c = refl
-    both false c = refl
 
 pub begins_refl : (s : List ℕ) → begins s s ≡ true
 begins_refl [] = refl

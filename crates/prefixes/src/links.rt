@@ -8,6 +8,7 @@ use crate::key::Key;
 use crate::stored::Stored;
 
 // Follows the links from `from` to the first string that begins the key.
+// A loop, since that the walk ends is a fact of the links, which an iterator over them could not know.
 pub(crate) fn ascend<K: Key>(stored: &[Stored], from: usize, key: &K) -> usize
     requires within { from < length stored.now }
     requires ascending { Ascending (strings stored.now) }

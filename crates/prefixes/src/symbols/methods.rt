@@ -20,11 +20,10 @@ impl Symbols {
         requires { length symbols.now ≤ 130 }
         ensures { spelled result ≡ symbols.now }
     {
-        let mut string = Symbols::new();
-        for symbol in symbols {
-            string.push(*symbol);
-        }
-        string
+        let len = symbols.len();
+        let mut bytes = [0; 130];
+        bytes[..len].copy_from_slice(symbols);
+        Symbols { bytes, len }
     }
 
     // One symbol more, behind the others.
@@ -32,9 +31,8 @@ impl Symbols {
         requires { length (spelled self.old) < 130 }
         ensures { spelled self.new ≡ spelled self.old ++ symbol ∷ [] }
     {
-        let at = self.len;
-        self.bytes[at] = symbol;
-        self.len = at + 1;
+        self.bytes[self.len] = symbol;
+        self.len += 1;
     }
 
     pub(crate) fn as_slice(&self) -> &[u8]
