@@ -33,9 +33,8 @@ pub(crate) fn insert_each(
     requires { length rows.old ≡ length stored.now }
     ensures { (k : ℕ) (d : Row) → k < length rows.old → Put place (covers_all (option_map spelled front.now) (at (strings stored.now) k)) (slice_index_or rows.old k d) (slice_index_or rows.new k d) }
 {
-    // By index, since nothing is known of rows that are written through a zip of them with the strings.
-    for i in 0..rows.len() {
-        let bit = covers(front, &stored[i].symbols);
-        rows[i].insert(place, bit);
+    // Each string is read by its index, since proofs know nothing of rows that are written through a zip of them with the strings.
+    for (i, row) in rows.iter_mut().enumerate() {
+        row.insert(place, covers(front, &stored[i].symbols));
     }
 }
