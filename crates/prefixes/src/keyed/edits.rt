@@ -35,6 +35,7 @@ pub(crate) fn insert_each(
 {
     // Each string is read by its index, since proofs know nothing of rows that are written through a zip of them with the strings.
     for (i, row) in rows.iter_mut().enumerate() {
-        row.insert(place, covers(front, &stored[i].symbols));
+        let bit = covers(front, &stored[i].symbols);
+        row.insert(place, bit);
     }
 }
