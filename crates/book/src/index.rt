@@ -15,7 +15,7 @@ use crate::hash::Keys;
 
 const SLOTS: usize = 4096;
 
-// The entries are the book's, not its own: so that the walks reach them is said of both at each call.
+// The entries are the book's, not its own, so each call says of both that the walks reach them.
 #[derive(Drop)]
 pub struct Index {
     pub(crate) slots: [Option<u16>; SLOTS],

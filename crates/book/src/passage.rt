@@ -27,7 +27,7 @@ pub struct Passage {
 }
 
 impl Passage {
-    // The protocol of the entries that the packet may fit. An unconnected packet fits none, whatever stands for it here.
+    // The protocol of the entries that the packet may fit. An unconnected packet fits none, whatever stands for it here, so this is no From.
     fn protocol(&self) -> Protocol
         ensures result { result ≡ protocol_of self.now.kind }
     {

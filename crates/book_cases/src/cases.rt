@@ -7,7 +7,7 @@ use std::io;
 // Any number will do: what the book answers does not depend on it.
 pub const SEED: u64 = 20_406;
 
-// Prints the label of a packet and the answer of its step.
+// Prints the label of a packet and the answer of its step. The book's own calls take a packet and a clock side by side.
 pub fn show(
     rt: &impl Print,
     book: &mut Book,

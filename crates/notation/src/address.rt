@@ -27,7 +27,7 @@ pub(crate) fn dotted(text: &str) -> Option<Address> {
     }
 }
 
-// A function, and no From: both types are of the crate `fields`.
+// Only the two fields of addresses come here. No From: the other fields have no end.
 fn end_of(field: Field) -> End {
     match field {
         Field::Source => End::Source,

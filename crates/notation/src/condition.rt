@@ -15,7 +15,7 @@ pub trait Notation: Sized {
 
 // What a pattern's text is.
 pub trait PatternText: Test {
-    // The condition that the pattern in the text makes.
+    // The condition that the pattern in the text makes. The field is told for the refusal: two fields share a pattern's type.
     fn read(field: Field, text: &str, sense: Sense) -> Result<Sided<Plain<Self>>, Refusal>;
 
     fn write<W: fmt::Write>(&self, f: &mut fmt::Formatter<W>) -> fmt::Result;

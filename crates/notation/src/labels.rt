@@ -26,7 +26,7 @@ impl fmt::Display for Written<Label> {
     }
 }
 
-// A function, and no FromStr: the type is of the crate `fields`.
+// A function, and no FromStr: the type is of the crate `fields`, and `Written` is for showing.
 pub(crate) fn label(text: &str) -> Option<Label> {
     LABELS.into_iter().find(|label| name(*label) == text)
 }

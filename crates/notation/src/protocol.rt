@@ -12,7 +12,7 @@ use std::fmt;
 
 const PROTOCOLS: [(&str, u8); 3] = [("icmp", 1), ("tcp", 6), ("udp", 17)];
 
-// A function, and no FromStr: the type is of the crate `fields`.
+// A function, and no FromStr: the type is the library's.
 pub(crate) fn number(text: &str) -> Option<u8> {
     named(&PROTOCOLS, text).or(decimal(text))
 }

@@ -116,13 +116,19 @@ impl FromStr for Rule {
     }
 }
 
+fn action_name(action: Action) -> &'static str {
+    match action {
+        Action::Accept => "accept",
+        Action::Drop => "drop",
+    }
+}
+
 // A function, and no FromStr: the type is of the crate `fields`.
 fn action(word: &str) -> Result<Action, RuleFault> {
-    match word {
-        "accept" => Ok(Action::Accept),
-        "drop" => Ok(Action::Drop),
-        _ => Err(RuleFault::Action),
-    }
+    [Action::Accept, Action::Drop]
+        .into_iter()
+        .find(|action| action_name(*action) == word)
+        .ok_or(RuleFault::Action)
 }
 
 // A condition other than any, behind its field's name.
@@ -139,10 +145,7 @@ fn write_word<C: Condition + Notation, W: fmt::Write>(
 
 impl fmt::Display for Rule {
     fn fmt<W: fmt::Write>(&self, f: &mut fmt::Formatter<W>) -> fmt::Result {
-        match self.action {
-            Action::Accept => write!(f, "accept")?,
-            Action::Drop => write!(f, "drop")?,
-        }
+        write!(f, "{}", action_name(self.action))?;
         write_word(Field::Source, self.source, f)?;
         write_word(Field::Destination, self.destination, f)?;
         write_word(Field::Protocol, self.protocol, f)?;

@@ -11,6 +11,7 @@ use notation::condition::{Notation, Written};
 use notation::rule::{Rule, RuleFault};
 use std::str::FromStr;
 
+// In the words of the stored output, which are shorter than the refusal's own.
 fn print_refusal(rt: &HostRuntime, text: &str, refusal: Refusal) -> anyhow::Result<()> {
     let Refusal {
         reason,
@@ -149,7 +150,7 @@ fn names(rt: &HostRuntime) -> anyhow::Result<()> {
     Ok(())
 }
 
-// In short words of its own: what the fault's Display says of a line would hide the cases here.
+// In the words of the stored output, which are shorter than the fault's own.
 fn print_fault(rt: &HostRuntime, text: &str, fault: RuleFault) -> anyhow::Result<()> {
     match fault {
         RuleFault::Action => println!(rt; "{text} -> no action")?,

@@ -17,7 +17,7 @@ pub(crate) fn shared(p: &[u8], s: &[u8], from: usize) -> usize
 }
 
 // Whether `p` is the front of `s`.
-// By the walk above: with the library's `starts_with` a read of a name takes 108 ns, and so 103.
+// By the walk above: with the library's `starts_with` a read of a name takes 108 ns, and 103 this way.
 pub(crate) fn begins(p: &[u8], s: &[u8]) -> bool
     ensures { result ≡ front p.now s.now }
 {

@@ -8,6 +8,7 @@ use crate::stretches::Stretches;
 mod methods;
 
 // A set of strings and, for keys that are numbers of 32 bits, the stretches of numbers with one longest string.
+// What is asked of the strings goes on to the set, call by call: in other hands an edit of it would leave the stretches behind.
 #[derive(Drop)]
 pub(crate) struct IndexedSet {
     set: PrefixSet,

@@ -8,7 +8,7 @@ use crate::key::Key;
 use crate::stored::Stored;
 
 // Follows the links from `from` to the first string that begins the key.
-// A loop, since that the walk ends is a fact of the links, which an iterator over them could not know.
+// A loop: only the links show that the walk ends.
 pub(crate) fn ascend<K: Key>(stored: &[Stored], from: usize, key: &K) -> usize
     requires within { from < length stored.now }
     requires ascending { Ascending (strings stored.now) }
@@ -26,7 +26,7 @@ pub(crate) fn ascend<K: Key>(stored: &[Stored], from: usize, key: &K) -> usize
 }
 
 // Links each string to the longest before it that begins it.
-// By index, since each step reads the strings before the one that it writes. That all are linked is no fact of theirs yet,
+// By index, since each step reads the strings before the one that it writes. They are not all linked yet,
 // so the functions here are of a slice and not of the set.
 pub(crate) fn relink(stored: &mut [Stored])
     requires { Ascending (strings stored.old) }

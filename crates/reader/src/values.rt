@@ -31,8 +31,8 @@ pub struct Fields {
     pub protocol: Protocol,
     // where the payload belongs in the whole datagram, in units of 8 bytes
     pub offset: u16,
-    // whether the offset is above 0: a fragment behind the first, with no transport header of its own; a field, so that
-    // the contract names it as it names the others
+    // whether the offset is above 0: a fragment behind the first, with no transport header of its own; hosts read
+    // the field, so it stays beside the offset
     pub later: bool,
     pub ports: Option<Ports>,
     pub flags: Option<Flags>,

@@ -39,6 +39,7 @@ fn fields(rt: &HostRuntime, fields: &Fields) -> io::Result<()> {
     Ok(())
 }
 
+// In the words of the stored output, which are not the refusal's own.
 pub(crate) fn refusal(rt: &HostRuntime, title: &str, refusal: Refusal) -> io::Result<()> {
     let Refusal {
         reason,

@@ -10,8 +10,7 @@ use std::alloc::{AllocError, Global};
 fn entries<'a>(heap: Global, table: &'a [Reading]) -> Result<Vec<&'a Reading>, AllocError> {
     let mut entries: Vec<&'a Reading> = Vec::new(heap);
     for reading in table {
-        let words = reading.row.words();
-        if !entries.iter().any(|earlier| earlier.row.words() == words) {
+        if !entries.iter().any(|earlier| earlier.row == reading.row) {
             entries.push(reading)?;
         }
     }

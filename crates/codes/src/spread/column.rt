@@ -63,7 +63,7 @@ where
     }
 }
 
-// Puts into each row, at `place`, whether the condition holds on the value of the row's code.
+// Puts into each row, at `place`, whether the condition holds on the value of the row's code. Not shared with other columns: `columns::table` says why.
 fn insert_each<K: Condition>(rows: &mut [Row], place: usize, condition: &K)
 where
     K::Value: Coded,

@@ -8,7 +8,7 @@ pub struct ProtocolNumber {
 }
 
 impl ProtocolNumber {
-    // None for 0.
+    // None for 0. A law of protocols alone, so that no other number shares this making.
     pub(crate) fn new(number: u8) -> Option<ProtocolNumber>
         ensures result { MatchOption result (number ≡ 0) (λ p. p.number ≡ number) }
     {

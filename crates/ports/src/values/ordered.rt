@@ -6,6 +6,7 @@ use rows::Row;
 
 pub(crate) mod methods;
 
+// No one type with the rows of prefixes, which a set of strings finds.
 // As many rows as can be listed have their memory from the making on; a map of the library would allocate at an insertion.
 // The keys stand apart from the rows since a look-up among 512 takes 49 ns so, and 58 ns where each key lies before its row.
 #[derive(Drop)]

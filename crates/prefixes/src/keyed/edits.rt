@@ -23,7 +23,7 @@ pub(crate) fn covers(front: &Option<Symbols>, string: &Symbols) -> bool
     }
 }
 
-// Puts into each row, at `place`, whether the front covers the string of the row.
+// Puts into each row, at `place`, whether the front covers the string of the row. Not shared with other columns: `columns::table` says why.
 pub(crate) fn insert_each(
     rows: &mut [Row],
     stored: &[Stored],

@@ -44,6 +44,7 @@ impl KeyedRows {
     }
 
     // Gives a front a row, where it has none: a copy of the row of the longest string that begins it, since the same conditions cover both.
+    // That there is room is known to the list above alone, so each call from here down to the set asks it.
     pub(crate) fn give(&mut self, front: &Option<Symbols>)
         requires { length (keys_of self.old) < 513 }
         ensures told { (fs : Fronts) → RowsTold self.old fs → Keys self.old fs → RowsTold self.new fs }

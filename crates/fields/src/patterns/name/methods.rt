@@ -2,7 +2,6 @@
 ghost use Rattle.std.specs.Prelude.{◌≡◌, None, MatchOption, ◌≢◌};
 ghost use Rattle.fields.specs.NameBytes.{text_fault};
 ghost use Rattle.fields.specs.NamePatterns.{beginning_bytes, name_passes};
-ghost use Rattle.fields.specs.Strings.{begins, same};
 
 use super::{NameBeginning, NamePattern};
 use crate::condition::Test;

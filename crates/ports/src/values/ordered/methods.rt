@@ -30,7 +30,7 @@ impl OrderedRows {
         self.keys.binary_search(&key)
     }
 
-    // The key's row, where it has one.
+    // The key's row, where it has one. By a match: behind an `ok` the proof no longer knows why there is none.
     pub(crate) fn get(&self, key: u16) -> Option<&Row>
         ensures { Found key self.now result }
     {
@@ -81,7 +81,7 @@ impl OrderedRows {
     }
 }
 
-// Puts into each row, at `place`, whether the condition holds on the key beside it.
+// Puts into each row, at `place`, whether the condition holds on the key beside it. Not shared with other columns: `columns::table` says why.
 fn put_each<C: Condition<Value = Port>>(rows: &mut [Row], keys: &[u16], place: usize, condition: &C)
     requires { length rows.old ≡ length keys.now }
     ensures { (k : ℕ) (d : Row) → k < length rows.old → Put place (C.Condition.admits condition.now (port_at keys.now k)) (slice_index_or rows.old k d) (slice_index_or rows.new k d) }
