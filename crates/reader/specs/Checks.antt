@@ -58,7 +58,7 @@ first_of [] = None
 first_of (x ∷ xs) = cond x.0 (Some x.1) (first_of xs)
 
 -- what is wrong with a packet, if anything is: checks 2 to 7, in their order
-abbrev pub packet_fault : List ℕ → Option Refusal
+unfoldable pub packet_fault : List ℕ → Option Refusal
 packet_fault bs = first_of (
     (truncated bs, refusal reason.Truncated (length bs))
     ∷ (other_version bs, refusal reason.Version 0)

@@ -17,6 +17,7 @@ impl<'a> Datagram<'a> {
     ghost use Rattle.reader.specs.Stages.{Cut};
 
     // Cuts a packet at the lengths that it states, where they fit what there is of it; what lies behind its total length is left out.
+    #[tactic(auto, unfolding(crate::specs::Checks::packet_fault))]
     pub(crate) fn cut(bytes: &'a [u8]) -> Result<Self, Refusal>
         ensures result { MatchResult result (Cut bytes.now) (λ e. packet_fault bytes.now ≡ Some e) }
     {

@@ -6,7 +6,7 @@ ghost use Rattle.prefixes.specs.Held.{held};
 ghost use Rattle.prefixes.specs.Ranges.{Padded, Stretched};
 ghost use Rattle.prefixes.specs.Stored.{Longest};
 
-use super::{ROOM, Stretches};
+use super::{STARTS, Stretches};
 use crate::ranges::END;
 use crate::set::PrefixSet;
 
@@ -15,8 +15,8 @@ impl Stretches {
     pub(crate) fn new(set: &PrefixSet) -> Stretches
         ensures { Divided (held set.now) result }
     {
-        let mut starts = [0; ROOM];
-        let mut answers = [0; ROOM];
+        let mut starts = [0; STARTS];
+        let mut answers = [0; STARTS];
         let count = divide(set, &mut starts, &mut answers);
         Stretches {
             starts,
@@ -60,7 +60,7 @@ fn step(forward: bool, shift: u32) -> usize
 
 // Divides the numbers of 32 bits into stretches with one answer, as far as there is room,
 // and says how many there are.
-fn divide(set: &PrefixSet, starts: &mut [u64; ROOM], answers: &mut [usize; ROOM]) -> usize
+fn divide(set: &PrefixSet, starts: &mut [u64; STARTS], answers: &mut [usize; STARTS]) -> usize
     ensures some { 0 < result }
     ensures within { result < 1025 }
     ensures first { slice_index starts.new 0 ≡ 0 }
