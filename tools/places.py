@@ -148,7 +148,7 @@ def point7(files):
 def point8(folder):
     for crate in sorted(pathlib.Path(folder, 'crates').iterdir()):
         files = sorted(crate.glob('proofs/**/*.antt'))
-        lines = sum(len(path.read_text().split('\n')) for path in files)
+        lines = sum(path.read_text().count('\n') for path in files)
         answers = sum(path.name == 'Answers.antt' for path in files)
         print(f'  {crate.name}: {len(files)} files, {answers} of answers, {lines} lines')
 

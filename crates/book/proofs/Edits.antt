@@ -1,5 +1,5 @@
 -- The live entries after an edit of the list.
-use Rattle.std.proofs.Common.{◌≡◌, ℕ, suc, ◌+◌, ◌<◌, ◌≤◌, Bool, true, cond, not, ◌&&◌, List, [], ◌∷◌, ◌++◌, length, get_or, set, sum_by, sym, refl, ◌∙◌, arith, lt-ltb}
+use Rattle.std.proofs.Common.{◌≡◌, ℕ, suc, ◌+◌, ◌<◌, ◌≤◌, Bool, true, false, cond, not, ◌&&◌, List, [], ◌∷◌, ◌++◌, length, get_or, set, sum_by, sym, refl, ◌∙◌, arith, lt-ltb}
 use Rattle.std.specs.List.{swap_remove}
 use Rattle.std.proofs.lemmas.List.Sums.{sum_by-cons, sum_by_push, sum_by-set, sum_by-swap_remove, count_by-le-length}
 use Rattle.std.proofs.lemmas.Bool.Decides.{nat_tests}
@@ -43,6 +43,12 @@ module _ (t : ℕ) (es : List Entry) (f : Flow) (i : ℕ) where
   same_swapped r asc held p = omega (arith, sum_by-swap_remove (weight t p) es i r held.0, one_less asc held p r)
 
 module _ (t : ℕ) where
+  -- an entry that is not live can go
+  pub same_dead : (es : List Entry) (i : ℕ) (r : Entry) → i < length es → live t (get_or es i r) ≡ false → Same t (swap_remove es i r) es
+  same_dead es i r l dead p =
+      let none : weight t p (get_or es i r) ≡ 0 = rw dead in
+      omega (arith, sum_by-swap_remove (weight t p) es i r l)
+
   pub all_live : (es : List Entry) → AllLive t es → live_total t es ≡ length es
   all_live [] f = refl
   all_live (x ∷ xs) f =

@@ -6,3 +6,4 @@ pub mod Index
 pub mod Live
 pub mod Passages
 pub mod Books
+pub mod Sweeps

@@ -25,9 +25,10 @@ impl Book {
     }
 
     // Takes out an entry, whose number the last one then has.
-    fn take_out(&mut self, number: usize) -> Entry
+    pub(crate) fn take_out(&mut self, number: usize) -> Entry
         requires { number < vec_len self.old.entries }
         ensures later { stored self.new ≡ swap_remove (stored self.old) number result }
+        ensures len { vec_len self.new.entries + 1 ≡ vec_len self.old.entries }
     {
         let entry = self.entries.swap_remove(number);
         if number < self.entries.len() {

@@ -83,6 +83,7 @@ impl Index {
     pub(crate) fn rebuild(&mut self, entries: &[Entry])
         requires few { length entries.now ≤ 1024 }
         ensures reached { Reached self.new.keys self.new.slots entries.now (length entries.now) }
+        ensures keys { self.new.keys ≡ self.old.keys }
     {
         self.slots = [None; SLOTS];
         self.free = SLOTS;
@@ -98,6 +99,7 @@ impl Index {
         requires inside { number < length entries.now }
         requires others { ReachedBut self.old.keys self.old.slots entries.now number }
         ensures reached { Reached self.new.keys self.new.slots entries.now (length entries.now) }
+        ensures keys { self.new.keys ≡ self.old.keys }
     {
         if self.free <= SLOTS / 2 {
             self.rebuild(entries);

@@ -17,6 +17,7 @@ mod making;
 mod passage;
 mod room;
 mod step;
+mod sweep;
 
 pub use answer::Answer;
 pub use book::Book;

@@ -20,6 +20,11 @@ fn values(datagram: Datagram, transport: Option<Transport>) -> Fields
 {
     let header = datagram.header;
     let offset = header.fragment_offset();
+    // One match for all three, and no `and_then` for each: so a caller takes in the whole of `read`.
+    let (ports, flags, echo) = match transport {
+        Some(t) => (t.ports(), t.flags(), t.echo()),
+        None => (None, None, None),
+    };
     Fields {
         source: header.source(),
         destination: header.destination(),
@@ -27,10 +32,10 @@ fn values(datagram: Datagram, transport: Option<Transport>) -> Fields
             number: header.protocol(),
         },
         offset,
-        later: offset != 0,
-        ports: transport.and_then(|t| t.ports()),
-        flags: transport.and_then(|t| t.flags()),
-        echo: transport.and_then(|t| t.echo()),
+        later: transport.is_none(),
+        ports,
+        flags,
+        echo,
     }
 }
 

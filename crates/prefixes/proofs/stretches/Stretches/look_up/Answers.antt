@@ -9,8 +9,8 @@ use Rattle.prefixes.proofs.stretches.Stretches.look_up.Goals as goal
 inside : (starts : List ℕ) (n key at : ℕ) → Padded starts n → at < length starts → get_or starts at 0 ≤ key → key < get_or starts n 0 → at < n
 inside starts n key at p h l k = ⊎_elim (λ lt. lt) (λ ge. let e = p at ge h in absurd (omega arith)) (cases_lt at n)
 
-pub returns : goal.returns
-returns c = λ ss divided.
+pub returns-clause-longest : goal.returns-clause-longest
+returns-clause-longest c = λ ss divided.
     let s = c.args.self.now in
     let n = c.from-number.result in
     let at = c.loop-shift.at in

@@ -7,7 +7,7 @@ use Rattle.book.specs.Index.{Reached}
 use Rattle.book.specs.Places.{Apart}
 use Rattle.book.specs.Live.{live, Same, AllLive, NoneBefore}
 use Rattle.book.proofs.Models.{same_live}
-use Rattle.book.proofs.book.Book.sweep.Goals as goal
+use Rattle.book.proofs.book.Book.keep_live.Goals as goal
 
 pub invariant_of-self : goal.invariant_of-self
 invariant_of-self c =
