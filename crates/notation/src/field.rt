@@ -33,9 +33,19 @@ impl fmt::Display for Written<Field> {
     }
 }
 
-// The field that a word's beginning names, and the text behind its `=`.
+// The field that a word's beginning names, and the text behind its `=`. By a match, as `read_set` says why.
 pub(crate) fn field_and_text(word: &str) -> Option<(Field, &str)> {
-    let (wanted, text) = word.split_once('=')?;
-    let field = FIELDS.into_iter().find(|field| name(*field) == wanted)?;
+    let (name, text) = word.split_once('=')?;
+    let field = match name {
+        "src" => Field::Source,
+        "dst" => Field::Destination,
+        "proto" => Field::Protocol,
+        "sport" => Field::SourcePort,
+        "dport" => Field::DestinationPort,
+        "flags" => Field::Flags,
+        "label" => Field::Label,
+        "in" => Field::Interface,
+        _ => return None,
+    };
     Some((field, text))
 }

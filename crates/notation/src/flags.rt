@@ -19,12 +19,25 @@ const FLAGS: [(&str, u8); 6] = [
     ("URG", URG),
 ];
 
+// The flag of this name.
+fn flag(name: &str) -> Option<u8> {
+    match name {
+        "FIN" => Some(FIN),
+        "SYN" => Some(SYN),
+        "RST" => Some(RST),
+        "PSH" => Some(PSH),
+        "ACK" => Some(ACK),
+        "URG" => Some(URG),
+        _ => None,
+    }
+}
+
 // The flags that the text names, between commas.
 pub(crate) fn set(text: &str) -> Option<u8> {
     if text == "NONE" {
         return Some(0);
     }
-    read_set(&FLAGS, text)
+    read_set(text, flag)
 }
 
 fn write_flags<W: fmt::Write>(flags: u8, f: &mut fmt::Formatter<W>) -> fmt::Result {

@@ -28,7 +28,12 @@ impl fmt::Display for Written<Label> {
 
 // A function, and no FromStr: the type is of the crate `fields`, and `Written` is for showing.
 pub(crate) fn label(text: &str) -> Option<Label> {
-    LABELS.into_iter().find(|label| name(*label) == text)
+    match text {
+        "new" => Some(Label::New),
+        "established" => Some(Label::Established),
+        "invalid" => Some(Label::Invalid),
+        _ => None,
+    }
 }
 
 // The names with the labels' weights in a set.
@@ -38,7 +43,7 @@ fn weights() -> [(&'static str, u8); 3] {
 
 impl PatternText for LabelSet {
     fn read(field: Field, text: &str, sense: Sense) -> Result<Sided<Plain<Self>>, Refusal> {
-        let members = read_set(&weights(), text).ok_or(unlawful(field))?;
+        let members = read_set(text, |name| Some(label(name)?.value())).ok_or(unlawful(field))?;
         making::labels(members, sense)
     }
 

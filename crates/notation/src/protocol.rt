@@ -1,6 +1,5 @@
 // Protocol conditions: a number from 1 to 255, or `icmp`, `tcp`, `udp`.
 use crate::condition::{PatternText, unlawful};
-use crate::names::named;
 use crate::number::decimal;
 use fields::condition::plain::Plain;
 use fields::condition::sided::{Sense, Sided};
@@ -13,8 +12,14 @@ use std::fmt;
 const PROTOCOLS: [(&str, u8); 3] = [("icmp", 1), ("tcp", 6), ("udp", 17)];
 
 // A function, and no FromStr: the type is the library's.
+// By a match, as `read_set` says why.
 pub(crate) fn number(text: &str) -> Option<u8> {
-    named(&PROTOCOLS, text).or(decimal(text))
+    match text {
+        "icmp" => Some(1),
+        "tcp" => Some(6),
+        "udp" => Some(17),
+        _ => decimal(text),
+    }
 }
 
 impl PatternText for ProtocolNumber {
