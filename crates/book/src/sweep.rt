@@ -55,7 +55,7 @@ fn first_deadline(entries: &[Entry]) -> u64
 }
 
 impl Book {
-    // Takes the dead entries out one by one: the walks of all others stay as they are.
+    // Takes the dead entries out one by one, as an erased one goes.
     // From the back, so that the last entry, which takes the place, is live.
     fn take_out_found(&mut self, found: &Found, clock: u32)
         requires few { found.now.dead ≤ 96 }

@@ -1,7 +1,7 @@
 // Bytes written as hex digits.
 use std::alloc::{AllocError, Global};
 
-// Capital letters are no digits here. By the ranges themselves: the library's `to_digit` takes any radix, and reading a long line with it half again as long.
+// Capital letters are no digits here. By the ranges themselves: the library's `to_digit` takes any radix, and a long line nearly twice as long.
 fn digit(c: u8) -> Option<u8> {
     match c {
         b'0'..=b'9' => Some(c - b'0'),
